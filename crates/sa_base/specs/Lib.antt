@@ -1,0 +1,4 @@
+pub mod Deeds
+pub mod Fakes
+pub mod Items
+pub mod Streams

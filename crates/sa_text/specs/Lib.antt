@@ -1,0 +1,3 @@
+pub use Rattle.sa_base.specs.Items
+pub mod Texts
+pub mod Values

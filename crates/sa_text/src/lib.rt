@@ -1,0 +1,16 @@
+//! Texts and values. A text is UTF-8 of at most 65,536 bytes, and contracts see it as the list of its
+//! code points; a value is missing or a text.
+#![tactic(auto)]
+
+mod text;
+mod text_error;
+mod value;
+mod weight;
+
+pub use text::Text;
+pub use text_error::TextError;
+pub use value::Value;
+pub use weight::values_weight;
+
+#[cfg(test)]
+mod tests;
