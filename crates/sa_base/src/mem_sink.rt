@@ -2,11 +2,10 @@ ghost use Rattle.std.specs.Prelude.{◌≡◌, ◌≤◌, ◌<◌, length, Some,
 ghost use Rattle.sa_base.specs.Streams.{Writes};
 ghost use Rattle.sa_base.specs.Fakes.{slate_took, slate_after};
 
-use std::alloc::Global;
-use std::marker::Model;
-
 use crate::memory::Memory;
 use crate::sink::{Sink, Took};
+use std::alloc::Global;
+use std::marker::Model;
 
 /// A sink into memory, for tests: it has room for a stated number of bytes, takes pieces of a stated
 /// length, and the calls whose numbers, from 0, stand in a list fail.
@@ -27,12 +26,12 @@ impl Model for MemSink {
     ghost Value = { Slate };
 
     ghost view = { λ s. record {
-        written = s.bytes.items;
-        room = s.room;
-        piece = s.piece;
-        fails = s.fails.items;
-        calls = s.calls;
-        faults = s.faults;
+      written = s.bytes.items;
+      room = s.room;
+      piece = s.piece;
+      fails = s.fails.items;
+      calls = s.calls;
+      faults = s.faults;
     } };
 
     ghost invariant = { λ s. (vec_len s.bytes + s.room ≤ vec_capacity s.bytes) × (1 ≤ s.piece) };

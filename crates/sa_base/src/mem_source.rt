@@ -2,9 +2,8 @@ ghost use Rattle.std.specs.Prelude.{◌≡◌, ◌≤◌, ◌<◌, length, Some}
 ghost use Rattle.sa_base.specs.Streams.{Reads};
 ghost use Rattle.sa_base.specs.Fakes.{tape_got, tape_after};
 
-use std::marker::Model;
-
 use crate::source::{Got, Source};
+use std::marker::Model;
 
 /// A source over bytes in memory, for tests: it gives pieces of a stated length, and the calls whose
 /// numbers, from 0, stand in a list fail.
@@ -25,11 +24,11 @@ impl Model for MemSource {
     ghost Value = { Tape };
 
     ghost view = { λ s. record {
-        left = drop s.place s.bytes.items;
-        piece = s.piece;
-        fails = s.fails.items;
-        calls = s.calls;
-        faults = s.faults;
+      left = drop s.place s.bytes.items;
+      piece = s.piece;
+      fails = s.fails.items;
+      calls = s.calls;
+      faults = s.faults;
     } };
 
     ghost invariant = { λ s. (s.place ≤ vec_len s.bytes) × (1 ≤ s.piece) };

@@ -17,3 +17,9 @@ impl<T: Drop> From<AllocFailed<T>> for Memory {
         Memory
     }
 }
+
+impl<T: Drop> From<(Memory, T)> for Memory {
+    fn from(_error: (Memory, T)) -> Memory {
+        Memory
+    }
+}

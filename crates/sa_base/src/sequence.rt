@@ -1,10 +1,9 @@
-ghost use Rattle.std.specs.Prelude.{◌≡◌, ◌++◌, ◌∷◌, ◌==◌, [], length, slice_get, IfErr, OnOk, OnErr};
+ghost use Rattle.std.specs.Prelude.{◌≡◌, ◌++◌, ◌∷◌, ◌==◌, [], length, slice_get, IfErr, OnOk, OnErr, MatchOption};
 ghost use Rattle.std.specs.Option.{option_copied};
 
+use crate::memory::Memory;
 use std::alloc::Global;
 use std::marker::Model;
-
-use crate::memory::Memory;
 
 /// A list inside a public value: contracts see its items alone, in order.
 #[derive(Drop)]
@@ -66,5 +65,19 @@ impl<T> Sequence<T> {
         ensures returned { IfErr result (λ e. e.1 ≡ item) }
     {
         self.items.push(item).map_err(|e| (Memory, e.value))
+    }
+
+    /// Takes the last item away; none of the empty list.
+    pub fn pop(&mut self) -> Option<T>
+        ensures { MatchOption result ((self.old ≡ []) × (self.new ≡ [])) (λ item. self.old ≡ self.new ++ item ∷ []) }
+    {
+        self.items.pop()
+    }
+
+    /// The items, in order, as a vector. It takes no memory.
+    pub fn into_vec(self) -> Vec<T>
+        ensures { result.items ≡ self }
+    {
+        self.items
     }
 }

@@ -1,8 +1,9 @@
-ghost use Rattle.std.specs.Prelude.{◌≡◌, None};
-
-use std::io::{Stdout, Write};
+ghost use Rattle.std.specs.Prelude.{◌≡◌, ◌≤◌, ◌<◌, length, None};
+ghost use Rattle.sa_base.specs.Streams.{Writes};
+ghost use Rattle.sa_base.specs.Fakes.{took_faults};
 
 use crate::sink::{Sink, Took};
+use std::io::{Stdout, Write};
 
 /// Standard output. It tells nothing of the bytes, and counts the writes that fail; a write that
 /// takes no byte is one.
@@ -26,7 +27,12 @@ impl Sink for StdSink {
 
     ghost faults = { λ s. s.faults };
 
-    fn write(&mut self, from: &[u8]) -> Took {
+    fn write(&mut self, from: &[u8]) -> Took
+        requires { 0 < length from.now }
+        ensures writes { Writes None None self.old.faults self.new.faults from.now result }
+        ensures kept { self.old.faults ≤ self.new.faults }
+        ensures counted { self.new.faults ≡ took_faults result self.old.faults }
+    {
         match self.output.write(from) {
             Ok(0) | Err(_) => {
                 self.faults = self.faults.saturating_add(1);

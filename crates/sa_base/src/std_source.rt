@@ -1,8 +1,9 @@
-ghost use Rattle.std.specs.Prelude.{◌≡◌, None};
-
-use std::io::{Read, Stdin};
+ghost use Rattle.std.specs.Prelude.{◌≡◌, ◌≤◌, ◌<◌, length, None};
+ghost use Rattle.sa_base.specs.Streams.{Reads};
+ghost use Rattle.sa_base.specs.Fakes.{got_faults};
 
 use crate::source::{Got, Source};
+use std::io::{Read, Stdin};
 
 /// Standard input. It tells nothing of the bytes, and counts the reads that fail.
 #[derive(Drop)]
@@ -25,7 +26,12 @@ impl Source for StdSource {
 
     ghost faults = { λ s. s.faults };
 
-    fn read(&mut self, to: &mut [u8]) -> Got {
+    fn read(&mut self, to: &mut [u8]) -> Got
+        requires { 0 < length to.old }
+        ensures reads { Reads None None self.old.faults self.new.faults to.new result }
+        ensures kept { self.old.faults ≤ self.new.faults }
+        ensures counted { self.new.faults ≡ got_faults result self.old.faults }
+    {
         match self.input.read(to) {
             Ok(0) => Got::End,
             Ok(count) => Got::Bytes(count),

@@ -1,9 +1,10 @@
 -- What the definition of a text gives, by the test for UTF-8.
-use Rattle.std.proofs.Common.{◌≡◌, ◌≤◌, ◌<◌, ◌^◌, ℕ, Bool, true, false, List, length, Result, Ok, Err, IsUtf8, arith, refl, sym, ap, inl, inr}
-use Rattle.std.specs.Str.{chars, is_utf8}
-use Rattle.std.proofs.lemmas.Str.{IsUtf8-from_is_utf8, is_utf8-from_IsUtf8}
+use Rattle.std.proofs.Common.{◌≡◌, ◌≤◌, ℕ, false, List, length, Ok, Err, IsUtf8, refl, sym, ap, ◌∙◌, inl, inr, encode_utf8_all}
+use Rattle.std.specs.Str.{chars, is_utf8, bytes_eq}
+use Rattle.std.proofs.lemmas.Str.{IsUtf8-from_is_utf8, is_utf8-from_IsUtf8, encodes-chars}
 use Rattle.std.proofs.lemmas.Bool.{cases_Bool, le-leb}
-use Rattle.sa_text.specs.declared.text_error.TextError.{TextError}
+use Rattle.std.proofs.lemmas.Bool.Decides.{same_from_decides, Decides-like}
+use Rattle.std.proofs.lemmas.Slice.Eq.{bytes_eq-Decides}
 use Rattle.sa_text.specs.declared.text_error.TextError.TheVariants as errors
 use Rattle.sa_text.specs.Texts.{text_of, most_bytes}
 
@@ -18,3 +19,10 @@ text_of-not_utf8 bytes short not_utf8 =
     let e = le-leb (length bytes) 65536 short in
     let f : is_utf8 bytes ≡ false = elim (cases_Bool (is_utf8 bytes)) [ inl t ↦ absurd (not_utf8 (IsUtf8-from_is_utf8 bytes t)) | inr h ↦ h ] in
     rw (e, f) refl
+
+-- texts are the same where their bytes are
+pub bytes_eq-chars : (a b : List ℕ) → IsUtf8 a → IsUtf8 b → bytes_eq a b ≡ bytes_eq (chars a) (chars b)
+bytes_eq-chars a b ua ub =
+    same_from_decides (bytes_eq a b) (bytes_eq (chars a) (chars b))
+    (Decides-like (bytes_eq a b) (λ e. ap chars e) (λ (e : chars a ≡ chars b). sym (encodes-chars a ua) ∙ ap encode_utf8_all e ∙ encodes-chars b ub) (bytes_eq-Decides a b))
+    (bytes_eq-Decides (chars a) (chars b))

@@ -1,13 +1,11 @@
 ghost use Rattle.std.specs.Prelude.{◌≡◌, ◌≤◌, ◌^◌, length, IfOk, IsUtf8, encode_utf8_all};
-ghost use Rattle.std.specs.Str.{chars};
+ghost use Rattle.std.specs.Str.{chars, bytes_eq};
 ghost use Rattle.sa_text.specs.Texts.{Gives, text_of};
 
+use crate::text_error::TextError;
+use sa_base::Memory;
 use std::alloc::Global;
 use std::marker::Model;
-
-use sa_base::Memory;
-
-use crate::text_error::TextError;
 
 /// The most bytes that one text has.
 pub const MAX_BYTES: usize = 65_536;
@@ -63,5 +61,12 @@ impl Text {
         ensures short { length result.now ≤ 65536 }
     {
         self.bytes.as_slice()
+    }
+
+    /// Whether two texts are the same.
+    pub fn is_same(&self, other: &Text) -> bool
+        ensures { result ≡ bytes_eq self.now other.now }
+    {
+        self.bytes == other.bytes
     }
 }

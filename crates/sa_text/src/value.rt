@@ -1,10 +1,8 @@
 ghost use Rattle.std.specs.Prelude.{◌≡◌, IfOk};
 
-use std::alloc::Global;
-
-use sa_base::Memory;
-
 use crate::text::Text;
+use sa_base::Memory;
+use std::alloc::Global;
 
 /// A value of a strings array: missing, or a text.
 #[derive(Debug, Drop)]

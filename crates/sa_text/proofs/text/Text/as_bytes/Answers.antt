@@ -1,6 +1,5 @@
 -- A text's bytes are those of its code points, since the bytes are UTF-8.
-use Rattle.std.proofs.Common.{sym, ap, ◌∙◌, ◌≡◌, List, ℕ, IsUtf8, encode_utf8_all}
-use Rattle.std.specs.Str.{chars}
+use Rattle.std.proofs.Common.{sym, ap, ◌∙◌, encode_utf8_all}
 use Rattle.std.proofs.lemmas.Str.{encodes-chars}
 use Rattle.sa_text.proofs.text.Text.as_bytes.Goals as goal
 

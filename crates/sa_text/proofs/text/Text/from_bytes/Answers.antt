@@ -1,6 +1,5 @@
-use Rattle.std.proofs.Common.{arith, rules, sym, ap, ◌∙◌, ◌≡◌, List, ℕ, Result, Ok, false, true}
+use Rattle.std.proofs.Common.{arith, rules, sym, ap, ◌∙◌, ◌≡◌, List, ℕ, Ok, false, true}
 use Rattle.std.specs.Str.{chars}
-use Rattle.sa_text.specs.Texts.{text_of}
 use Rattle.sa_text.proofs.TextLemmas.{text_of-utf8, text_of-not_utf8}
 use Rattle.sa_text.proofs.text.Text.from_bytes.Goals as goal
 

@@ -1,0 +1,6 @@
+pub mod LawLemmas
+pub mod LineLemmas
+pub mod NumberLemmas
+pub mod QuotedLemmas
+pub mod QuoteLemmas
+pub mod TokenLemmas

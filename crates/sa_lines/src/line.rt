@@ -1,0 +1,63 @@
+ghost use Rattle.std.specs.Prelude.{◌≡◌, ◌<◌, ◌≤◌, ◌∷◌, false, length};
+ghost use Rattle.sa_lines.specs.Lines.{lines_of, without_return, is_skipped, is_blank, begins_blank};
+ghost use Rattle.sa_lines.specs.Tokens.{tokens_of};
+
+use crate::bytes::first;
+use memchr::memchr;
+
+/// Whether the byte is a space or a tab.
+pub fn is_blank(byte: u8) -> bool
+    ensures { result ≡ is_blank byte }
+{
+    byte == b' ' || byte == b'\t'
+}
+
+/// The first line and what follows it. A line ends with a line feed, and a carriage return just
+/// before it is dropped; the last line may lack its line feed.
+pub fn cut_line(bytes: &[u8]) -> (&[u8], &[u8])
+    requires { 0 < length bytes.now }
+    ensures cut { lines_of bytes.now ≡ result.0.now ∷ lines_of result.1.now }
+    ensures shorter { length result.1.now < length bytes.now }
+{
+    match memchr(b'\n', bytes) {
+        Some(at) => (without_return(&bytes[..at]), &bytes[at + 1..]),
+        None => (bytes, &bytes[bytes.len()..]),
+    }
+}
+
+/// The line without a carriage return at its end.
+fn without_return(line: &[u8]) -> &[u8]
+    ensures { result.now ≡ without_return line.now }
+{
+    let Some((byte, front)) = line.split_last() else {
+        return line;
+    };
+    if *byte == b'\r' { front } else { line }
+}
+
+/// Whether a line is skipped: it has blanks alone, or its first byte that is none is `#`.
+pub fn is_skipped(line: &[u8]) -> bool
+    ensures { result ≡ is_skipped line.now }
+{
+    match first(skip_blanks(line)) {
+        Some((byte, _)) => byte == b'#',
+        None => true,
+    }
+}
+
+/// The line from its first byte on that is no blank.
+pub fn skip_blanks(line: &[u8]) -> &[u8]
+    ensures stops { begins_blank result.now ≡ false }
+    ensures skips { is_skipped line.now ≡ is_skipped result.now }
+    ensures tokens { tokens_of line.now ≡ tokens_of result.now }
+    ensures within { length result.now ≤ length line.now }
+{
+    let mut rest = line;
+    while let Some((byte, after)) = first(rest) {
+        if !is_blank(byte) {
+            break;
+        }
+        rest = after;
+    }
+    rest
+}

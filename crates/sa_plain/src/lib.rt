@@ -1,0 +1,6 @@
+//! Items of arrays: lists of one kind, and lists of such lists.
+#![tactic(auto)]
+
+mod items;
+
+pub use items::{Items, ItemsList, ValueList};

@@ -1,0 +1,103 @@
+-- The bytes of a report: this project's own format.
+use Rattle.std.specs.Prelude.{ℕ, zero, suc, ◌+◌, ◌==◌, Bool, true, false, List, [], ◌∷◌, ◌++◌, length, if◌then◌else◌, codes, decimal}
+use Rattle.std.specs.List.{flat_map}
+use Rattle.sa_lines.specs.Lines.{line}
+use Rattle.sa_lines.specs.Quotes.{quoted}
+use Rattle.sa_text.specs.declared.value.Value.{Value}
+use Rattle.sa_text.specs.declared.value.Value.TheVariants.{Missing, Of}
+use Rattle.sa_plain.specs.declared.items.Items.{Items}
+use Rattle.sa_plain.specs.declared.items.Items.TheVariants.{Values}
+use Rattle.sa_script.specs.declared.call.Call.{Call}
+use Rattle.sa_script.specs.declared.reply.Reply.{Reply}
+use Rattle.sa_script.specs.declared.reply.Reply.TheVariants.{Done, Shown, Refused}
+use Rattle.sa_script.specs.Scripts.{Plan}
+use Rattle.sa_report.specs.Histories.{is_among}
+
+-- a value of a list
+abbrev pub value_bytes : Value → List ℕ
+value_bytes Missing = codes "na"
+value_bytes (Of text) = quoted text
+
+-- values with a comma between two of them
+abbrev pub commas : List Value → List ℕ
+commas [] = []
+commas (v ∷ vs) = value_bytes v ++ flat_map (λ w. 44 ∷ value_bytes w) vs
+
+-- a list in brackets
+abbrev pub list_bytes : Items → List ℕ
+list_bytes (Values values) = 40 ∷ (commas values ++ 41 ∷ [])
+
+abbrev pub reply_bytes : Reply → List ℕ
+reply_bytes Done = codes "done"
+reply_bytes (Shown items) = codes "shown " ++ list_bytes items
+reply_bytes (Refused code at) = codes "refused " ++ (decimal code ++ 32 ∷ decimal at)
+
+-- a task and a call
+abbrev pub pair : ℕ × ℕ → List ℕ
+pair p = decimal p.0 ++ 58 ∷ decimal p.1
+
+abbrev pub spaced_pair : ℕ × ℕ → List ℕ
+spaced_pair p = 32 ∷ pair p
+
+abbrev pub history_line : List (ℕ × ℕ) → List ℕ
+history_line history = line (codes "history" ++ flat_map spaced_pair history)
+
+abbrev pub marked_line : List (ℕ × ℕ) → List ℕ
+marked_line marks = line (codes "marked" ++ flat_map spaced_pair marks)
+
+-- a call's number and its reply
+abbrev pub call_line : ℕ → Reply → List ℕ
+call_line number reply = line (decimal number ++ 32 ∷ reply_bytes reply)
+
+abbrev pub memory_line : ℕ → List ℕ
+memory_line number = line (decimal number ++ codes " memory")
+
+-- the replies to the calls of a task, in the order of the history
+abbrev pub replies_of : ℕ → List (ℕ × ℕ) → List Reply → List Reply
+replies_of task [] replies = []
+replies_of task (p ∷ ps) [] = []
+replies_of task (p ∷ ps) (r ∷ rs) = if p.0 == task then r ∷ replies_of task ps rs else replies_of task ps rs
+
+-- The lines of a task's calls, this many from a number on: a marked call found no memory, and each other one has the next of the task's replies.
+abbrev pub call_lines : (ℕ → Bool) → ℕ → ℕ → List Reply → List ℕ
+call_lines marked k zero replies = []
+call_lines marked k (suc n) [] = if marked k then memory_line k ++ call_lines marked (k + 1) n [] else []
+call_lines marked k (suc n) (r ∷ rs) = if marked k then memory_line k ++ call_lines marked (k + 1) n (r ∷ rs) else call_line k r ++ call_lines marked (k + 1) n rs
+
+-- the lines of calls numbered from one on, with these replies
+abbrev pub numbered : ℕ → List Reply → List ℕ
+numbered k [] = []
+numbered k (r ∷ rs) = call_line k r ++ numbered (k + 1) rs
+
+abbrev pub task_line : ℕ → List ℕ
+task_line task = line (codes "task " ++ decimal task)
+
+-- a task and the lines of its calls
+abbrev pub task_block : List (ℕ × ℕ) → List (ℕ × ℕ) → List Reply → ℕ → List Call → List ℕ
+task_block history marks replies task calls = task_line task ++ call_lines (is_among marks task) 0 (length calls) (replies_of task history replies)
+
+-- the tasks from a number on, each with the lines of its calls
+abbrev pub task_lines : List (ℕ × ℕ) → List (ℕ × ℕ) → List Reply → ℕ → List (List Call) → List ℕ
+task_lines history marks replies task [] = []
+task_lines history marks replies task (calls ∷ others) = task_block history marks replies task calls ++ task_lines history marks replies (task + 1) others
+
+-- an array's name and its final contents
+abbrev pub array_line : List ℕ → Items → List ℕ
+array_line name items = line (codes "array " ++ (name ++ 32 ∷ list_bytes items))
+
+abbrev pub array_lines : List (List ℕ) → List Items → List ℕ
+array_lines [] contents = []
+array_lines (n ∷ ns) [] = []
+array_lines (n ∷ ns) (c ∷ cs) = array_line n c ++ array_lines ns cs
+
+-- what stands behind the line of marks
+abbrev pub report_rest : Plan → List (ℕ × ℕ) → List (ℕ × ℕ) → List Reply → List Items → List ℕ
+report_rest plan history marks replies contents = task_lines history marks replies 0 plan.tasks ++ (array_lines plan.names.arrays contents ++ line (codes "end"))
+
+-- The report of a script with a history and marks, the replies in the order of the history, and the final contents of the arrays in order of declaration.
+abbrev pub report_of : Plan → List (ℕ × ℕ) → List (ℕ × ℕ) → List Reply → List Items → List ℕ
+report_of plan history marks replies contents = line (codes "report 1") ++ (history_line history ++ (marked_line marks ++ report_rest plan history marks replies contents))
+
+-- the line for a faulty script
+abbrev pub fault_line : ℕ → ℕ → List ℕ
+fault_line code number = line (codes "fault " ++ (decimal code ++ (codes " line " ++ decimal number)))

@@ -1,0 +1,21 @@
+-- Declared arrays: their lengths, and the entries of a descriptor.
+use Rattle.std.proofs.Common.{◌≡◌, ℕ, ◌+◌, ◌<◌, ◌≤◌, ◌*◌, Bool, true, false, cond, eqb, ltb, List, [], ◌∷◌, length, get_or, take, refl, sym, ap, ◌∙◌, arith, eq-eqb}
+use Rattle.std.proofs.lemmas.List.{get_or_past}
+use Rattle.std.proofs.lemmas.List.Sums.{sum_by_more_le}
+use Rattle.std.proofs.lemmas.Bool.{lt-ltb}
+use Rattle.sa_script.specs.declared.decls.ArrayDecl.{ArrayDecl}
+use Rattle.sa_script.specs.declared.decls.Kind.TheVariants as kind
+use Rattle.sa_script.specs.Contexts.{length_at, array_at}
+use Rattle.sa_script.specs.Decls.{entries_of, entries_at}
+
+pub length_at_past : (arrays : List ArrayDecl) (k : ℕ) → length arrays ≤ k → length_at arrays k ≡ 0
+length_at_past arrays k past = ap (λ (a : ArrayDecl). a.len) (get_or_past arrays k (record { home = 0; kind = kind.Str; len = 0 }) past)
+
+-- an array that takes more than the room left passes the limit, with all that follow it
+pub entries_pass : (arrays : List ArrayDecl) (home i room len : ℕ) → i < length arrays → (array_at arrays i).home ≡ home → room < (array_at arrays i).len
+    → room + (entries_of (take i arrays) home + len) ≡ 8192 → true ≡ ltb 8192 (entries_of arrays home + len)
+entries_pass arrays home i room len below same more spent =
+    let whole = sum_by_more_le (entries_at home) arrays i (record { home = 0; kind = kind.Str; len = 0 }) below in
+    let e : eqb (array_at arrays i).home home ≡ true = eq-eqb (array_at arrays i).home home same in
+    let here : entries_at home (array_at arrays i) ≡ (array_at arrays i).len = rw e refl in
+    sym (lt-ltb 8192 (entries_of arrays home + len) (omega (arith, whole, here)))

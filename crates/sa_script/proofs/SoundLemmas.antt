@@ -1,0 +1,239 @@
+-- A statement without a fault keeps what the lines declare sound.
+use Rattle.std.proofs.Common.{◌≡◌, ℕ, suc, ◌+◌, ◌<◌, ◌≤◌, Bool, true, false, not, ◌||◌, cond, ltb, leb, eqb, nat_lt, nat_le, ℤ, pos, negsuc, List, [], ◌∷◌, ◌++◌, length, Option, Some, None, is_none, unwrap_or, refl, sym, ap, ◌∙◌, subst, arith, length-append, sum_by}
+use Rattle.std.specs.List.{AllByRecursion}
+use Rattle.std.proofs.lemmas.Bool.{ltb-false, leb-false, lt-ltb, eqb-true}
+use Rattle.std.proofs.lemmas.List.Sums.{sum_by-append}
+use Rattle.std.proofs.lemmas.List.Quantifiers.{position-Some}
+use Rattle.sa_descr.specs.declared.descr.NaRule.{NaRule}
+use Rattle.sa_descr.specs.declared.descr.NaRule.TheVariants.{Absent}
+use Rattle.sa_script.specs.declared.decls.Kind.TheVariants as kind
+use Rattle.sa_plain.specs.declared.items.Items.TheVariants.{Values}
+use Rattle.sa_text.specs.declared.value.Value.{Value}
+use Rattle.sa_script.specs.declared.call.Call.{Call}
+use Rattle.sa_script.specs.declared.call.View.{View}
+use Rattle.sa_script.specs.declared.cause.Cause.{Cause}
+use Rattle.sa_script.specs.declared.cause.Cause.TheVariants as cause
+use Rattle.sa_script.specs.declared.context.Context.{Context}
+use Rattle.sa_script.specs.declared.decls.ArrayDecl.{ArrayDecl}
+use Rattle.sa_script.specs.declared.statement.Statement.{Statement}
+use Rattle.sa_script.specs.declared.statement.Statement.TheVariants as statement
+use Rattle.sa_script.specs.Calls.{with_call, whole, set_call, show_call, lengths_fit}
+use Rattle.sa_script.specs.Contexts.{after, with_descr, with_array, with_task, with_last, used, used_length, array_number, descr_number, home_number, number_in, is_known, length_at, allowed}
+use Rattle.sa_script.specs.Decls.{Declared, IsDeclared, entries_of, entries_at}
+use Rattle.sa_script.specs.Faults.{fault_of, out_of_order, misnamed, over_limit, bad_lengths, count_in, passes_entries, is_long}
+use Rattle.sa_script.specs.Sound.{IsSound, IsSoundContext, IsCall, AreCalls, IsWhole}
+
+-- what holds of each element of a list, and of one more
+all_weaker : {A : Type 0} (P Q : A → Type 0) (xs : List A) → ((x : A) → P x → Q x) → AllByRecursion P xs → AllByRecursion Q xs
+all_weaker P Q [] f a = tt
+all_weaker P Q (x ∷ xs) f a = (f x a.0, all_weaker P Q xs f a.1)
+
+all_push : {A : Type 0} (P : A → Type 0) (xs : List A) (y : A) → AllByRecursion P xs → P y → AllByRecursion P (xs ++ y ∷ [])
+all_push P [] y a p = (p, tt)
+all_push P (x ∷ xs) y a p = (a.0, all_push P xs y a.1 p)
+
+-- a chain of tests that gives nothing fails each of them
+record NoneOf (p q r s : Bool) : Type 0 where
+  first : p ≡ false
+  second : q ≡ false
+  third : r ≡ false
+  fourth : s ≡ false
+
+none_of : {A : Type 0} (p q r s : Bool) (a b c d : A) → cond p (Some a) (cond q (Some b) (cond r (Some c) (cond s (Some d) None))) ≡ None → NoneOf p q r s
+none_of true q r s a b c d e = cc
+none_of false true r s a b c d e = cc
+none_of false false true s a b c d e = cc
+none_of false false false true a b c d e = cc
+none_of false false false false a b c d e = record { first = refl; second = refl; third = refl; fourth = refl }
+
+either_false : (p q : Bool) → (p || q) ≡ false → (p ≡ false) × (q ≡ false)
+either_false true q e = cc
+either_false false q e = (refl, e)
+
+not_false : (p : Bool) → not p ≡ false → p ≡ true
+not_false true e = refl
+not_false false e = cc
+
+-- a number that is among a list's places
+found_below : (names : List (List ℕ)) (name : List ℕ) → is_none (number_in names name) ≡ false → unwrap_or (number_in names name) 0 < length names
+found_below names name e = go (number_in names name) refl e
+  where
+    go : (o : Option ℕ) → number_in names name ≡ o → is_none o ≡ false → unwrap_or o 0 < length names
+    go None same e = cc
+    go (Some i) same e = (position-Some _ names i [] same).0
+
+-- before the first task there are no calls
+no_calls : (d : Declared) (tasks : List (List Call)) → nat_lt 0 (length tasks) ≡ false → AreCalls d tasks
+no_calls d [] e = tt
+no_calls d (t ∷ ts) e = let few = ltb-false 0 (length (t ∷ ts)) e in absurd (omega arith)
+
+-- a length that passes no limit
+entry_fits : (before : ℕ) (length : Option ℤ) → passes_entries before length ≡ false → before + allowed length ≤ 8192
+entry_fits before None e = cc
+entry_fits before (Some (pos n)) e = let within = ltb-false 8192 (before + n) e in omega arith
+entry_fits before (Some (negsuc n)) e = cc
+
+-- a further descriptor
+descr_after : (c : Context) (name : List ℕ) (rule : NaRule) (coerce : Bool) → IsSoundContext c → nat_lt 0 (length c.tasks) ≡ false → nat_le 8 (length c.descrs) ≡ false → IsSoundContext (with_descr c name rule coerce)
+descr_after c name rule coerce s untasked few =
+    let d = s.sound.declared in
+    let room = leb-false 8 (length c.descrs) few in
+    let longer = length-append c.descrs ((record { na = rule; coerce = coerce }) ∷ []) in
+    let named = length-append c.names.descrs (name ∷ []) in
+    record {
+      sound = record {
+        declared = record {
+          homes = all_weaker (λ (a : ArrayDecl). a.home < length c.descrs) (λ (a : ArrayDecl). a.home < length (c.descrs ++ (record { na = rule; coerce = coerce }) ∷ [])) c.arrays (λ a below. omega arith) d.homes;
+          descrs = omega arith;
+          arrays = d.arrays;
+          entries = d.entries;
+        };
+        descr_names = let before = s.sound.descr_names in omega arith;
+        array_names = s.sound.array_names;
+        few_tasks = s.sound.few_tasks;
+        few_calls = s.sound.few_calls;
+        valid = no_calls (record { descrs = c.descrs ++ (record { na = rule; coerce = coerce }) ∷ []; arrays = c.arrays }) c.tasks untasked;
+      };
+      counted = s.counted;
+    }
+
+-- the entries of a descriptor with one more array
+entries_after : (arrays : List ArrayDecl) (home len : ℕ) (given : Option ℤ) (other : ℕ) → entries_of arrays other ≤ 8192 → passes_entries (entries_of arrays home) given ≡ false → len ≡ allowed given
+    → entries_of (arrays ++ (record { home = home; kind = kind.Str; len = len }) ∷ []) other ≤ 8192
+entries_after arrays home len given other within fits same =
+    let whole = sum_by-append (entries_at other) arrays ((record { home = home; kind = kind.Str; len = len }) ∷ []) in
+    go (eqb home other) refl whole
+  where
+    go : (b : Bool) → eqb home other ≡ b → sum_by (entries_at other) (arrays ++ (record { home = home; kind = kind.Str; len = len }) ∷ []) ≡ sum_by (entries_at other) arrays + (0 + cond (eqb home other) len 0) → entries_of (arrays ++ (record { home = home; kind = kind.Str; len = len }) ∷ []) other ≤ 8192
+    go true e whole = let at_home : home ≡ other = eqb-true home other e in let more = entry_fits (entries_of arrays home) given fits in let here : cond (eqb home other) len 0 ≡ len = rw e refl in let there : entries_of arrays home ≡ entries_of arrays other = ap (entries_of arrays) at_home in omega arith
+    go false e whole = let here : cond (eqb home other) len 0 ≡ 0 = rw e refl in omega arith
+
+-- a further array
+array_after : (c : Context) (name home : List ℕ) (len : Option ℤ) → IsSoundContext c → nat_lt 0 (length c.tasks) ≡ false → nat_le 64 (length c.arrays) ≡ false
+    → is_none (descr_number c home) ≡ false → passes_entries (entries_of c.arrays (home_number c home)) len ≡ false → IsSoundContext (with_array c name (home_number c home) (allowed len))
+array_after c name home len s untasked few known fits =
+    let d = s.sound.declared in
+    let new : ArrayDecl = record { home = home_number c home; kind = kind.Str; len = allowed len } in
+    let room = leb-false 64 (length c.arrays) few in
+    let longer = length-append c.arrays (new ∷ []) in
+    let named = length-append c.names.arrays (name ∷ []) in
+    let below : home_number c home < length c.descrs = subst (λ n. home_number c home < n) s.sound.descr_names (found_below c.names.descrs home known) in
+    record {
+      sound = record {
+        declared = record {
+          homes = all_push (λ (a : ArrayDecl). a.home < length c.descrs) c.arrays new d.homes below;
+          descrs = d.descrs;
+          arrays = omega arith;
+          entries = λ other. entries_after c.arrays (home_number c home) (allowed len) len other (d.entries other) fits refl;
+        };
+        descr_names = s.sound.descr_names;
+        array_names = let before = s.sound.array_names in omega arith;
+        few_tasks = s.sound.few_tasks;
+        few_calls = s.sound.few_calls;
+        valid = no_calls (record { descrs = c.descrs; arrays = c.arrays ++ new ∷ [] }) c.tasks untasked;
+      };
+      counted = s.counted;
+    }
+
+-- a further task
+task_after : (c : Context) → IsSoundContext c → nat_le 64 (length c.tasks) ≡ false → IsSoundContext (with_task c)
+task_after c s few =
+    let room = leb-false 64 (length c.tasks) few in
+    let longer = length-append c.tasks ([] ∷ []) in
+    let whole = sum_by-append (λ (t : List Call). length t) c.tasks ([] ∷ []) in
+    let counted : sum_by (λ (t : List Call). length t) c.tasks ≡ c.calls = s.counted in
+    let most : sum_by (λ (t : List Call). length t) c.tasks ≤ 1024 = s.sound.few_calls in
+    record {
+      sound = record {
+        declared = s.sound.declared;
+        descr_names = s.sound.descr_names;
+        array_names = s.sound.array_names;
+        few_tasks = omega arith;
+        few_calls = omega arith;
+        valid = all_push (AllByRecursion (IsCall (record { descrs = c.descrs; arrays = c.arrays }))) c.tasks [] s.sound.valid tt;
+      };
+      counted = omega arith;
+    }
+
+-- a call more of the last task
+length-with_call : (tasks : List (List Call)) (call : Call) → length (with_call tasks call) ≡ length tasks
+length-with_call [] call = refl
+length-with_call (t ∷ []) call = refl
+length-with_call (t ∷ u ∷ ts) call = ap (λ n. suc n) (length-with_call (u ∷ ts) call)
+
+sum-with_call : (tasks : List (List Call)) (call : Call) → nat_lt 0 (length tasks) ≡ true → sum_by (λ (t : List Call). length t) (with_call tasks call) ≡ sum_by (λ (t : List Call). length t) tasks + 1
+sum-with_call [] call e = cc
+sum-with_call (t ∷ []) call e = let longer = length-append t (call ∷ []) in omega arith
+sum-with_call (t ∷ u ∷ ts) call e =
+    let ih = sum-with_call (u ∷ ts) call (lt-ltb 0 (length (u ∷ ts)) (omega arith)) in
+    let before = sum_by-append (λ (t : List Call). length t) (t ∷ []) (u ∷ ts) in
+    let after = sum_by-append (λ (t : List Call). length t) (t ∷ []) (with_call (u ∷ ts) call) in
+    omega arith
+
+calls-with_call : (d : Declared) (tasks : List (List Call)) (call : Call) → AreCalls d tasks → IsCall d call → AreCalls d (with_call tasks call)
+calls-with_call d [] call a h = tt
+calls-with_call d (t ∷ []) call a h = (all_push (IsCall d) t call a.0 h, tt)
+calls-with_call d (t ∷ u ∷ ts) call a h = (a.0, calls-with_call d (u ∷ ts) call a.1 h)
+
+call_after : (c : Context) (call : Call) → IsSoundContext c → not (nat_lt 0 (length c.tasks)) ≡ false → nat_le 1024 c.calls ≡ false → IsCall (record { descrs = c.descrs; arrays = c.arrays }) call → IsSoundContext (with_last c call)
+call_after c call s tasked few valid =
+    let room = leb-false 1024 c.calls few in
+    let longer = length-with_call c.tasks call in
+    let whole = sum-with_call c.tasks call (not_false (nat_lt 0 (length c.tasks)) tasked) in
+    let counted : sum_by (λ (t : List Call). length t) c.tasks ≡ c.calls = s.counted in
+    let tasks_before = s.sound.few_tasks in
+    record {
+      sound = record {
+        declared = s.sound.declared;
+        descr_names = s.sound.descr_names;
+        array_names = s.sound.array_names;
+        few_tasks = omega arith;
+        few_calls = omega arith;
+        valid = calls-with_call (record { descrs = c.descrs; arrays = c.arrays }) c.tasks call s.sound.valid valid;
+      };
+      counted = omega arith;
+    }
+
+-- the view of a whole used array
+whole_after : (c : Context) (name : List ℕ) → IsSoundContext c → is_none (array_number c name) ≡ false → IsWhole (record { descrs = c.descrs; arrays = c.arrays }) (whole (used c name) (used_length c name))
+whole_after c name s known = record {
+  declared = subst (λ n. used c name < n) s.sound.array_names (found_below c.names.arrays name known);
+  from_start = refl;
+  all = refl;
+  by_one = refl;
+}
+
+-- a list that passes no limit has as many items as were counted
+list_fits : (items : Option (List Value)) (len : ℕ) → is_none items ≡ false → not (lengths_fit (count_in items ∷ []) len) ≡ false → lengths_fit (length (unwrap_or items []) ∷ []) len ≡ true
+list_fits None len e f = cc
+list_fits (Some items) len e f = not_false (lengths_fit (length items ∷ []) len) f
+
+-- what it says of a statement that it has no fault
+faultless : (c : Context) (s : Statement) → fault_of c s ≡ None → NoneOf (out_of_order c s) (misnamed c s) (over_limit c s) (bad_lengths c s)
+faultless c s e = none_of (out_of_order c s) (misnamed c s) (over_limit c s) (bad_lengths c s) cause.Order cause.Name cause.Limit cause.Lengths e
+
+pub sound_after : (c : Context) (s : Statement) → IsSoundContext c → fault_of c s ≡ None → IsSoundContext (after c s)
+sound_after c (statement.Descr name rule coerce) s e =
+    let none = faultless c (statement.Descr name rule coerce) e in
+    let order = either_false c.ended (nat_lt 0 (length c.tasks)) none.first in
+    let limit = either_false (is_long name || is_none rule) (nat_le 8 (length c.descrs)) none.third in
+    descr_after c name (unwrap_or rule Absent) coerce s order.1 limit.1
+sound_after c (statement.Array name home len) s e =
+    let none = faultless c (statement.Array name home len) e in
+    let order = either_false c.ended (nat_lt 0 (length c.tasks)) none.first in
+    let names = either_false (is_known c.names name) (is_none (descr_number c home)) none.second in
+    let limit = either_false (is_long name || nat_le 64 (length c.arrays)) (passes_entries (entries_of c.arrays (home_number c home)) len) none.third in
+    let few = either_false (is_long name) (nat_le 64 (length c.arrays)) limit.0 in
+    array_after c name home len s order.1 few.1 names.1 limit.1
+sound_after c statement.Task s e = let none = faultless c statement.Task e in task_after c s none.third
+sound_after c (statement.Set name items) s e =
+    let none = faultless c (statement.Set name items) e in
+    let order = either_false c.ended (not (nat_lt 0 (length c.tasks))) none.first in
+    let limit = either_false (is_none items) (nat_le 1024 c.calls) none.third in
+    call_after c (set_call (used c name) (used_length c name) (unwrap_or items [])) s order.1 limit.1
+    (whole_after c name s none.second, list_fits items (used_length c name) limit.0 none.fourth)
+sound_after c (statement.Show name) s e =
+    let none = faultless c (statement.Show name) e in
+    let order = either_false c.ended (not (nat_lt 0 (length c.tasks))) none.first in
+    call_after c (show_call (used c name) (used_length c name)) s order.1 none.third (whole_after c name s none.second)
+sound_after c statement.End s e = record { sound = s.sound; counted = s.counted }

@@ -1,0 +1,31 @@
+-- What a script declares: descriptors and arrays, and the names that stand for them.
+use Rattle.std.specs.Prelude.{◌≡◌, ℕ, ◌+◌, ◌<◌, ◌≤◌, ◌==◌, List, length, sum_by, if◌then◌else◌}
+use Rattle.std.specs.List.{AllByRecursion}
+use Rattle.sa_descr.specs.declared.descr.Descr.{Descr}
+use Rattle.sa_script.specs.declared.decls.ArrayDecl.{ArrayDecl}
+use Rattle.sa_script.specs.Limits.{most_descrs, most_arrays, most_entries}
+
+-- the descriptors and the arrays, each in order of declaration
+pub record Declared : Type 0 where
+  pub descrs : List Descr
+  pub arrays : List ArrayDecl
+
+-- the entries of an array, where its home is this descriptor
+abbrev pub entries_at : ℕ → ArrayDecl → ℕ
+entries_at home a = if a.home == home then a.len else 0
+
+-- the entries of all arrays of a descriptor together
+abbrev pub entries_of : List ArrayDecl → ℕ → ℕ
+entries_of arrays home = sum_by (entries_at home) arrays
+
+-- each home is declared, and the limits hold
+pub record IsDeclared (d : Declared) : Type 0 where
+  pub homes : AllByRecursion (λ (a : ArrayDecl). a.home < length d.descrs) d.arrays
+  pub descrs : length d.descrs ≤ most_descrs
+  pub arrays : length d.arrays ≤ most_arrays
+  pub entries : (home : ℕ) → entries_of d.arrays home ≤ most_entries
+
+-- the names of the descriptors and of the arrays, each in order of declaration
+pub record Known : Type 0 where
+  pub descrs : List (List ℕ)
+  pub arrays : List (List ℕ)

@@ -1,0 +1,12 @@
+pub mod Calls
+pub mod Contexts
+pub mod Decls
+pub mod Effects
+pub mod Faults
+pub mod Items
+pub mod Limits
+pub mod Names
+pub mod Scripts
+pub mod Sound
+pub mod Statements
+pub mod Views

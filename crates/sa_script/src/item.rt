@@ -1,0 +1,174 @@
+ghost use Rattle.std.specs.Prelude.{◌≡◌, ◌++◌, ◌∷◌, [], Option, Some, option_map, IfOk, length};
+ghost use Rattle.sa_script.specs.Items.{text_at, text_token, item_at, further_at, items_at, of_text, one_more, list_of, missing_at};
+
+use std::alloc::Global;
+
+use sa_base::Memory;
+use sa_lines::{first, quoted_at};
+use sa_plain::ValueList;
+use sa_text::{Text, TextError, Value};
+
+/// The most items of one literal list.
+const MOST_ITEMS: usize = 8192;
+
+/// Reads a quoted text at the front, none inside where it is too long, and what follows it.
+fn text_at<'a>(
+    alloc: Global,
+    scratch: &mut Vec<u8>,
+    bytes: &'a [u8],
+) -> Result<Option<(Option<Text>, &'a [u8])>, Memory>
+    ensures { IfOk result (λ r. option_map (λ x. (x.0, x.1.now)) r ≡ text_at bytes.now) }
+{
+    let Some(rest) = quoted_at(scratch, bytes)? else {
+        return Ok(None);
+    };
+    match Text::from_bytes(alloc, scratch.as_slice()) {
+        Ok(text) => Ok(Some((Some(text), rest))),
+        Err(TextError::TooLong) => Ok(Some((None, rest))),
+        Err(TextError::NotUtf8) => Ok(None),
+        Err(TextError::Memory) => Err(Memory),
+    }
+}
+
+/// Reads a token that is a quoted text, none inside where it is too long.
+pub fn text_token(
+    alloc: Global,
+    scratch: &mut Vec<u8>,
+    token: &[u8],
+) -> Result<Option<Option<Text>>, Memory>
+    ensures { IfOk result (λ r. r ≡ text_token token.now) }
+{
+    match text_at(alloc, scratch, token)? {
+        Some((text, [])) => Ok(Some(text)),
+        _ => Ok(None),
+    }
+}
+
+/// Reads an item at the front: `na`, or a text, none inside where it is too long; and what follows
+/// it.
+fn item_at<'a>(
+    alloc: Global,
+    scratch: &mut Vec<u8>,
+    bytes: &'a [u8],
+) -> Result<Option<(Option<Value>, &'a [u8])>, Memory>
+    ensures { IfOk result (λ r. option_map (λ x. (x.0, x.1.now)) r ≡ item_at bytes.now) }
+{
+    let Some((byte, rest)) = first(bytes) else {
+        return Ok(None);
+    };
+    if byte == b'n' {
+        return Ok(missing_at(rest));
+    }
+    match text_at(alloc, scratch, bytes)? {
+        Some((text, rest)) => Ok(Some((of_text(text), rest))),
+        None => Ok(None),
+    }
+}
+
+/// The word `na`, of which the first letter was read, and what follows it.
+fn missing_at(bytes: &[u8]) -> Option<(Option<Value>, &[u8])>
+    ensures { option_map (λ x. (x.0, x.1.now)) result ≡ missing_at bytes.now }
+{
+    let (byte, rest) = first(bytes)?;
+    if byte != b'a' {
+        return None;
+    }
+    Some((Some(Value::Missing), rest))
+}
+
+/// The value that a text is.
+fn of_text(text: Option<Text>) -> Option<Value>
+    ensures { result ≡ of_text text }
+{
+    match text {
+        Some(text) => Some(Value::Of(text)),
+        None => None,
+    }
+}
+
+/// One more item of a list: none once an item was too long or there are more items than a list may
+/// have.
+fn one_more(so_far: Option<ValueList>, item: Option<Value>) -> Result<Option<ValueList>, Memory>
+    ensures { IfOk result (λ r. r ≡ one_more so_far item) }
+{
+    let (Some(mut values), Some(value)) = (so_far, item) else {
+        return Ok(None);
+    };
+    if values.len() >= MOST_ITEMS {
+        return Ok(None);
+    }
+    match values.push(value) {
+        Ok(()) => Ok(Some(values)),
+        Err((memory, _)) => Err(memory),
+    }
+}
+
+/// Reads one more item and the byte behind it, and what follows that.
+fn further_at<'a>(
+    alloc: Global,
+    scratch: &mut Vec<u8>,
+    so_far: Option<ValueList>,
+    bytes: &'a [u8],
+) -> Result<Option<(Option<ValueList>, u8, &'a [u8])>, Memory>
+    ensures { IfOk result (λ r. option_map (λ x. (x.0, x.1, x.2.now)) r ≡ further_at so_far bytes.now) }
+{
+    let Some((item, behind)) = item_at(alloc, scratch, bytes)? else {
+        return Ok(None);
+    };
+    let Some((byte, rest)) = first(behind) else {
+        return Ok(None);
+    };
+    let items = one_more(so_far, item)?;
+    Ok(Some((items, byte, rest)))
+}
+
+/// Reads items behind an opening bracket, and what follows the closing one. None inside where an
+/// item is too long or there are too many.
+fn items_at<'a>(
+    alloc: Global,
+    scratch: &mut Vec<u8>,
+    bytes: &'a [u8],
+) -> Result<Option<(Option<ValueList>, &'a [u8])>, Memory>
+    ensures { IfOk result (λ r. option_map (λ x. (x.0, x.1.now)) r ≡ items_at (length bytes.now) (Some []) bytes.now) }
+{
+    let mut so_far = Some(ValueList::new(alloc));
+    let mut rest = bytes;
+    'items: for _ in 0..bytes.len() {
+        let Some((items, byte, others)) = further_at(alloc, scratch, so_far, rest)? else {
+            return Ok(None);
+        };
+        if byte == b')' {
+            return Ok(Some((items, others)));
+        }
+        if byte != b',' {
+            return Ok(None);
+        }
+        so_far = items;
+        rest = others;
+    }
+    Ok(None)
+}
+
+/// Reads a token that is a list: one item, or items in brackets. The outer none is no list, the
+/// inner none a list that passes a limit.
+pub fn list_of(
+    alloc: Global,
+    scratch: &mut Vec<u8>,
+    token: &[u8],
+) -> Result<Option<Option<ValueList>>, Memory>
+    ensures { IfOk result (λ r. r ≡ list_of token.now) }
+{
+    let Some((byte, others)) = first(token) else {
+        return Ok(None);
+    };
+    if byte == b'(' {
+        return match items_at(alloc, scratch, others)? {
+            Some((items, [])) => Ok(Some(items)),
+            _ => Ok(None),
+        };
+    }
+    match item_at(alloc, scratch, token)? {
+        Some((item, [])) => Ok(Some(one_more(Some(ValueList::new(alloc)), item)?)),
+        _ => Ok(None),
+    }
+}

@@ -1,0 +1,64 @@
+ghost use Rattle.std.specs.Prelude.{◌≡◌};
+ghost use Rattle.sa_script.specs.Sound.{IsSound};
+
+use std::marker::Model;
+
+use crate::call::TaskList;
+use crate::decls::Decls;
+use crate::names::Names;
+
+/// A script: what it declares, the names, and its tasks' calls. Each call is valid under the
+/// declarations.
+#[derive(Drop)]
+pub struct Script {
+    decls: Decls,
+    names: Names,
+    tasks: TaskList,
+}
+
+impl Model for Script {
+    ghost use Rattle.sa_script.specs.Scripts.{Plan};
+    ghost use Rattle.sa_script.specs.Sound.{IsSound};
+
+    ghost Value = { Plan };
+
+    ghost view = { λ s. record { decls = s.decls; names = s.names; tasks = s.tasks } };
+
+    ghost invariant = { λ s. IsSound s.decls s.names s.tasks };
+}
+
+impl Script {
+    /// The script of these declarations, names and calls. It takes no memory.
+    pub(crate) fn new(decls: Decls, names: Names, tasks: TaskList) -> Script
+        requires { IsSound decls names tasks }
+        ensures { result ≡ record { decls = decls; names = names; tasks = tasks } }
+    {
+        Script {
+            decls,
+            names,
+            tasks,
+        }
+    }
+
+    /// The descriptors and arrays.
+    pub fn decls(&self) -> &Decls
+        ensures { result.now ≡ self.now.decls }
+    {
+        &self.decls
+    }
+
+    /// The names of descriptors and arrays.
+    pub fn names(&self) -> &Names
+        ensures { result.now ≡ self.now.names }
+    {
+        &self.names
+    }
+
+    /// The calls of each task.
+    pub fn tasks(&self) -> &TaskList
+        ensures tasks { result.now ≡ self.now.tasks }
+        ensures sound { IsSound self.now.decls self.now.names self.now.tasks }
+    {
+        &self.tasks
+    }
+}
