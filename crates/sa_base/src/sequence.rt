@@ -74,6 +74,13 @@ impl<T> Sequence<T> {
         self.items.pop()
     }
 
+    /// These items, in order. It takes no memory.
+    pub fn from_vec(items: Vec<T>) -> Self
+        ensures { result ≡ items.items }
+    {
+        Sequence { items }
+    }
+
     /// The items, in order, as a vector. It takes no memory.
     pub fn into_vec(self) -> Vec<T>
         ensures { result.items ≡ self }

@@ -38,7 +38,7 @@ pub fn combine(alloc: Global, table: &[Descr], numbers: &[u8]) -> Result<NaRule,
 }
 
 /// The rule of the descriptor with this number.
-fn rule_of(table: &[Descr], number: u8) -> &NaRule
+pub fn rule_of(table: &[Descr], number: u8) -> &NaRule
     requires { number < length table.now }
     ensures { result.now ≡ rule_at (map (λ d. d.na) table.now) number }
 {

@@ -6,7 +6,7 @@ mod combination;
 mod descr;
 mod missing;
 
-pub use combination::{CombineError, combine};
+pub use combination::{CombineError, combine, rule_of};
 pub use descr::{Descr, NaRule};
 pub use missing::{Miss, MissGroup, miss_of};
 

@@ -4,3 +4,6 @@
 mod items;
 
 pub use items::{Items, ItemsList, ValueList};
+
+#[cfg(test)]
+mod tests;

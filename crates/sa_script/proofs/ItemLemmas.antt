@@ -1,5 +1,5 @@
 -- One item of a list after another.
-use Rattle.std.proofs.Common.{◌≡◌, ℕ, zero, suc, ◌+◌, ◌-◌, ◌<◌, ◌≤◌, Bool, true, false, eqb, cond, List, [], ◌∷◌, Option, Some, None, refl, sym, ap, ◌∙◌, arith, eq-eqb, sub-one}
+use Rattle.std.proofs.Common.{◌≡◌, ℕ, zero, suc, ◌-◌, ◌<◌, false, eqb, List, Option, Some, None, refl, ap, ◌∙◌, arith, eq-eqb, sub-one}
 use Rattle.sa_text.specs.declared.value.Value.{Value}
 use Rattle.sa_script.specs.Items.{items_at, further_at}
 

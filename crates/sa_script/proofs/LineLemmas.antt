@@ -1,10 +1,9 @@
 -- What is declared after a line whose statement has no fault, and after the last line.
-use Rattle.std.proofs.Common.{◌≡◌, ℕ, ◌+◌, Bool, true, false, List, [], ◌∷◌, Option, Some, None, Result, Ok, Err, refl, ap, ◌∙◌, sym}
+use Rattle.std.proofs.Common.{◌≡◌, ℕ, ◌+◌, true, false, List, ◌∷◌, Some, None, Ok, Err, refl}
 use Rattle.std.specs.Str.{is_utf8}
-use Rattle.sa_lines.specs.Lines.{lines_of, is_skipped}
+use Rattle.sa_lines.specs.Lines.{is_skipped}
 use Rattle.sa_lines.specs.Tokens.{tokens_of}
 use Rattle.sa_script.specs.declared.cause.Cause.{Cause}
-use Rattle.sa_script.specs.declared.cause.Cause.TheVariants as cause
 use Rattle.sa_script.specs.declared.context.Context.{Context}
 use Rattle.sa_script.specs.declared.statement.Statement.{Statement}
 use Rattle.sa_script.specs.Contexts.{after}

@@ -1,7 +1,7 @@
 -- Tests of lists, and of what they are mapped to.
-use Rattle.std.proofs.Common.{◌≡◌, ℕ, ◌+◌, Bool, cond, List, [], ◌∷◌, length, map, Option, Some, None, refl, ap, ap₂, ltb, ◌||◌, not}
+use Rattle.std.proofs.Common.{◌≡◌, Bool, cond, List, [], ◌∷◌, map, Some, None, refl, ap₂, ltb, not}
 use Rattle.std.proofs.lemmas.List.{length-map}
-use Rattle.std.specs.List.{position, prefix_len, position_or_len}
+use Rattle.std.specs.List.{position, prefix_len}
 
 pub prefix_len-map : {A B : Type 0} (p : B → Bool) (f : A → B) (xs : List A) → prefix_len p (map f xs) ≡ prefix_len (λ x. p (f x)) xs
 prefix_len-map p f [] = refl

@@ -1,5 +1,5 @@
 -- A statement without a fault keeps what the lines declare sound.
-use Rattle.std.proofs.Common.{◌≡◌, ℕ, suc, ◌+◌, ◌<◌, ◌≤◌, Bool, true, false, not, ◌||◌, cond, ltb, leb, eqb, nat_lt, nat_le, ℤ, pos, negsuc, List, [], ◌∷◌, ◌++◌, length, Option, Some, None, is_none, unwrap_or, refl, sym, ap, ◌∙◌, subst, arith, length-append, sum_by}
+use Rattle.std.proofs.Common.{◌≡◌, ℕ, suc, ◌+◌, ◌<◌, ◌≤◌, Bool, true, false, not, ◌||◌, cond, eqb, nat_lt, nat_le, ℤ, pos, negsuc, List, [], ◌∷◌, ◌++◌, length, Option, Some, None, is_none, unwrap_or, refl, ap, subst, arith, length-append, sum_by}
 use Rattle.std.specs.List.{AllByRecursion}
 use Rattle.std.proofs.lemmas.Bool.{ltb-false, leb-false, lt-ltb, eqb-true}
 use Rattle.std.proofs.lemmas.List.Sums.{sum_by-append}
@@ -7,21 +7,18 @@ use Rattle.std.proofs.lemmas.List.Quantifiers.{position-Some}
 use Rattle.sa_descr.specs.declared.descr.NaRule.{NaRule}
 use Rattle.sa_descr.specs.declared.descr.NaRule.TheVariants.{Absent}
 use Rattle.sa_script.specs.declared.decls.Kind.TheVariants as kind
-use Rattle.sa_plain.specs.declared.items.Items.TheVariants.{Values}
 use Rattle.sa_text.specs.declared.value.Value.{Value}
 use Rattle.sa_script.specs.declared.call.Call.{Call}
-use Rattle.sa_script.specs.declared.call.View.{View}
-use Rattle.sa_script.specs.declared.cause.Cause.{Cause}
 use Rattle.sa_script.specs.declared.cause.Cause.TheVariants as cause
 use Rattle.sa_script.specs.declared.context.Context.{Context}
 use Rattle.sa_script.specs.declared.decls.ArrayDecl.{ArrayDecl}
 use Rattle.sa_script.specs.declared.statement.Statement.{Statement}
 use Rattle.sa_script.specs.declared.statement.Statement.TheVariants as statement
 use Rattle.sa_script.specs.Calls.{with_call, whole, set_call, show_call, lengths_fit}
-use Rattle.sa_script.specs.Contexts.{after, with_descr, with_array, with_task, with_last, used, used_length, array_number, descr_number, home_number, number_in, is_known, length_at, allowed}
-use Rattle.sa_script.specs.Decls.{Declared, IsDeclared, entries_of, entries_at}
+use Rattle.sa_script.specs.Contexts.{after, with_descr, with_array, with_task, with_last, used, used_length, array_number, descr_number, home_number, number_in, is_known, allowed}
+use Rattle.sa_script.specs.Decls.{Declared, entries_of, entries_at}
 use Rattle.sa_script.specs.Faults.{fault_of, out_of_order, misnamed, over_limit, bad_lengths, count_in, passes_entries, is_long}
-use Rattle.sa_script.specs.Sound.{IsSound, IsSoundContext, IsCall, AreCalls, IsWhole}
+use Rattle.sa_script.specs.Sound.{IsSoundContext, IsCall, AreCalls, IsWhole}
 
 -- what holds of each element of a list, and of one more
 all_weaker : {A : Type 0} (P Q : A → Type 0) (xs : List A) → ((x : A) → P x → Q x) → AllByRecursion P xs → AllByRecursion Q xs

@@ -1,12 +1,9 @@
 -- The calls of tasks, and the lengths that fit them.
-use Rattle.std.specs.Prelude.{ℕ, ◌==◌, ℤ, pos, Bool, true, false, ◌&&◌, ◌||◌, not, List, [], ◌∷◌, ◌++◌, length, Option, Some, None, if◌then◌else◌}
+use Rattle.std.specs.Prelude.{ℕ, ◌==◌, pos, Bool, false, List, [], ◌∷◌, ◌++◌, Option, Some, None, if◌then◌else◌}
 use Rattle.sa_text.specs.declared.value.Value.{Value}
-use Rattle.sa_plain.specs.declared.items.Items.{Items}
 use Rattle.sa_plain.specs.declared.items.Items.TheVariants.{Values}
 use Rattle.sa_script.specs.declared.call.View.{View}
-use Rattle.sa_script.specs.declared.call.Op.{Op}
 use Rattle.sa_script.specs.declared.call.Op.TheVariants as op
-use Rattle.sa_script.specs.declared.call.Operand.{Operand}
 use Rattle.sa_script.specs.declared.call.Operand.TheVariants as operand
 use Rattle.sa_script.specs.declared.call.Call.{Call}
 

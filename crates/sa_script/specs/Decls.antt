@@ -1,5 +1,5 @@
 -- What a script declares: descriptors and arrays, and the names that stand for them.
-use Rattle.std.specs.Prelude.{◌≡◌, ℕ, ◌+◌, ◌<◌, ◌≤◌, ◌==◌, List, length, sum_by, if◌then◌else◌}
+use Rattle.std.specs.Prelude.{ℕ, ◌<◌, ◌≤◌, ◌==◌, List, length, sum_by, if◌then◌else◌}
 use Rattle.std.specs.List.{AllByRecursion}
 use Rattle.sa_descr.specs.declared.descr.Descr.{Descr}
 use Rattle.sa_script.specs.declared.decls.ArrayDecl.{ArrayDecl}

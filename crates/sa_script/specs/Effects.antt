@@ -1,14 +1,11 @@
 -- What a call makes of what it reads: its weight, its refusals, its results and its reply.
-use Rattle.std.specs.Prelude.{ℕ, ◌+◌, ◌-◌, ◌==◌, nat_lt, Bool, true, false, ◌&&◌, not, List, [], ◌∷◌, ◌++◌, length, take, drop, replicate, map, sum_by, Option, Some, None, Result, Ok, Err, if◌then◌else◌}
+use Rattle.std.specs.Prelude.{ℕ, ◌+◌, ◌==◌, nat_lt, Bool, false, ◌&&◌, not, List, [], ◌∷◌, ◌++◌, length, take, drop, replicate, map, sum_by, Option, Some, None, if◌then◌else◌}
 use Rattle.sa_base.specs.Items.{Item}
 use Rattle.sa_base.specs.Deeds.{Place, Part, Read, Weighed, Counted, Pictured, PictureWeighed}
-use Rattle.sa_text.specs.Values.{value_weight, weight_of, is_missing, value_of}
+use Rattle.sa_text.specs.Values.{value_weight, is_missing, value_of}
 use Rattle.sa_text.specs.declared.value.Value.{Value}
-use Rattle.sa_text.specs.declared.value.Value.TheVariants.{Missing}
 use Rattle.sa_descr.specs.Rules.{is_given, rule_at}
-use Rattle.sa_descr.specs.declared.descr.Descr.{Descr}
 use Rattle.sa_plain.specs.Items.{items_weight, values_of}
-use Rattle.sa_plain.specs.declared.items.Items.{Items}
 use Rattle.sa_plain.specs.declared.items.Items.TheVariants.{Values}
 use Rattle.sa_script.specs.declared.call.View.{View}
 use Rattle.sa_script.specs.declared.call.Op.{Op}
@@ -18,7 +15,6 @@ use Rattle.sa_script.specs.declared.call.Operand.TheVariants as operand
 use Rattle.sa_script.specs.declared.call.Call.{Call}
 use Rattle.sa_script.specs.declared.reply.Refusal.{Refusal}
 use Rattle.sa_script.specs.declared.reply.Refusal.TheVariants as refusal
-use Rattle.sa_script.specs.declared.reply.Reply.{Reply}
 use Rattle.sa_script.specs.declared.reply.Reply.TheVariants as reply
 use Rattle.sa_script.specs.declared.reply.Outcome.{Outcome}
 use Rattle.sa_script.specs.Contexts.{array_at}
@@ -102,13 +98,20 @@ abbrev pub forbids : Declared → Option View → Bool
 forbids decls None = false
 forbids decls (Some out) = not (is_given (rule_at (map (λ d. d.na) decls.descrs) (home_of decls out.array)))
 
--- The first refusal among results that follow this weight and this many elements: a missing one that the output forbids, or one with which the weight passes its limit.
+-- Why a result that follows this weight is refused: it is missing and the output forbids that, or the weight passes its limit with it.
+abbrev pub refusal_of : Bool → ℕ → Value → Option Refusal
+refusal_of forbidden weight v =
+    if forbidden && is_missing v then Some refusal.NoMissing
+    else (if nat_lt most_weight (weight + value_weight v) then Some refusal.TooMuch else None)
+
+abbrev pub at_place : ℕ → Option Refusal → Option (Refusal × ℕ) → Option (Refusal × ℕ)
+at_place at None later = later
+at_place at (Some cause) later = Some (cause, at)
+
+-- the first refusal among results that follow this weight and this many elements
 abbrev pub refused : Bool → ℕ → ℕ → List Value → Option (Refusal × ℕ)
 refused forbidden weight at [] = None
-refused forbidden weight at (v ∷ vs) =
-    if forbidden && is_missing v then Some (refusal.NoMissing, at)
-    else (if nat_lt most_weight (weight + value_weight v) then Some (refusal.TooMuch, at)
-    else refused forbidden (weight + value_weight v) (at + 1) vs)
+refused forbidden weight at (v ∷ vs) = at_place at (refusal_of forbidden weight v) (refused forbidden (weight + value_weight v) (at + 1) vs)
 
 -- results that are not refused: put into the output, or answered where there is none
 abbrev pub given : Option View → List Value → Outcome

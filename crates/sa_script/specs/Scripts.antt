@@ -1,5 +1,5 @@
 -- The meaning of a script's bytes: what it declares and its calls, or its least faulty line with the first fault of that line.
-use Rattle.std.specs.Prelude.{◌≡◌, ℕ, ◌+◌, Bool, true, false, List, [], ◌∷◌, Option, Some, None, Result, Ok, Err, IsOk, if◌then◌else◌}
+use Rattle.std.specs.Prelude.{◌≡◌, ℕ, ◌+◌, List, [], ◌∷◌, Option, Some, None, Result, Ok, Err, if◌then◌else◌}
 use Rattle.std.specs.Str.{is_utf8}
 use Rattle.sa_lines.specs.Lines.{lines_of, is_skipped}
 use Rattle.sa_lines.specs.Tokens.{tokens_of}
@@ -51,7 +51,7 @@ plan_of c = record { decls = record { descrs = c.descrs; arrays = c.arrays }; na
 abbrev pub meaning : List ℕ → Result Plan (ℕ × ℕ)
 meaning bytes = either (judged nothing 0 (lines_of bytes)) (λ c. Ok (plan_of c)) (λ fault. Err (code_of fault.0, fault.1))
 
--- want of memory comes in place of a script alone, and a fault is the definition's
+-- want of memory may come in place of each answer, and a fault is the definition's
 abbrev pub Fails : ScriptFault → Result Plan (ℕ × ℕ) → Type 0
 Fails (errors.Fault code number) defined = defined ≡ Err (code, number)
 Fails errors.Memory defined = Unit {0}

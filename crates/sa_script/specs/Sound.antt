@@ -1,5 +1,5 @@
 -- What every script keeps: its limits, its names, and that each of its calls is valid under its declarations.
-use Rattle.std.specs.Prelude.{◌≡◌, ℕ, ◌<◌, ◌≤◌, pos, true, List, [], ◌∷◌, length, sum_by, Option, Some, None}
+use Rattle.std.specs.Prelude.{◌≡◌, ◌<◌, ◌≤◌, pos, true, List, [], ◌∷◌, length, sum_by, Option, Some, None}
 use Rattle.std.specs.List.{AllByRecursion}
 use Rattle.sa_plain.specs.Items.{count_of}
 use Rattle.sa_script.specs.declared.call.View.{View}

@@ -1,9 +1,8 @@
-use sa_base::Sequence;
-use sa_descr::Descr;
-
 use crate::call::TaskList;
 use crate::decls::ArrayDecl;
 use crate::names::Names;
+use sa_base::Sequence;
+use sa_descr::Descr;
 
 /// What the lines so far declared and call.
 #[derive(Drop)]

@@ -1,9 +1,8 @@
 ghost use Rattle.std.specs.Prelude.{◌≡◌};
 ghost use Rattle.sa_script.specs.Decls.{IsDeclared};
 
-use std::marker::Model;
-
 use sa_descr::Descr;
+use std::marker::Model;
 
 /// What the items of an array are.
 #[derive(Clone, Copy, Debug, PartialEq, Eq)]

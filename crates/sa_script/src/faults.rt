@@ -4,13 +4,12 @@ ghost use Rattle.sa_script.specs.Contexts.{used, used_length, home_number, array
 ghost use Rattle.sa_script.specs.Decls.{entries_of};
 ghost use Rattle.sa_script.specs.Faults.{out_of_order, misnamed, over_limit, bad_lengths, fault_of, has_tasks, is_long, passes_entries, count_in};
 
-use sa_plain::ValueList;
-
 use crate::cause::Cause;
 use crate::context::Context;
 use crate::decls::ArrayDecl;
 use crate::name::Name;
 use crate::statement::Statement;
+use sa_plain::ValueList;
 
 /// The most descriptors of a script.
 const MOST_DESCRS: usize = 8;
@@ -90,9 +89,7 @@ impl Context {
             Statement::Descr(name, rule, _) => {
                 is_long(name) || rule.is_none() || self.descrs.len() >= MOST_DESCRS
             }
-            Statement::Array(name, home, len) => {
-                self.array_passes(name, home, *len)
-            }
+            Statement::Array(name, home, len) => { self.array_passes(name, home, *len) }
             Statement::Task => self.tasks.len() >= MOST_TASKS,
             Statement::Set(_, items) => items.is_none() || self.calls >= MOST_CALLS,
             Statement::Show(_) => self.calls >= MOST_CALLS,

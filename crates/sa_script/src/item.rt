@@ -1,12 +1,11 @@
 ghost use Rattle.std.specs.Prelude.{◌≡◌, ◌++◌, ◌∷◌, [], Option, Some, option_map, IfOk, length};
 ghost use Rattle.sa_script.specs.Items.{text_at, text_token, item_at, further_at, items_at, of_text, one_more, list_of, missing_at};
 
-use std::alloc::Global;
-
 use sa_base::Memory;
 use sa_lines::{first, quoted_at};
 use sa_plain::ValueList;
 use sa_text::{Text, TextError, Value};
+use std::alloc::Global;
 
 /// The most items of one literal list.
 const MOST_ITEMS: usize = 8192;

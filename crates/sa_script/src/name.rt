@@ -2,9 +2,8 @@ ghost use Rattle.std.specs.Prelude.{◌≡◌, length};
 ghost use Rattle.sa_script.specs.Names.{name_of, is_name, is_name_byte, is_reserved};
 ghost use Rattle.std.specs.List.{list_all};
 
-use std::marker::Model;
-
 use sa_lines::{first, is_word};
+use std::marker::Model;
 
 /// A name as it stands in a script: a letter a to z, then letters, digits and `_`, and no word that
 /// means something else where a name may stand.

@@ -2,12 +2,10 @@ ghost use Rattle.std.specs.Prelude.{◌≡◌, ◌∷◌, ◌++◌, [], option_m
 ghost use Rattle.std.specs.Str.{bytes_eq};
 ghost use Rattle.sa_script.specs.Contexts.{number_in, is_known};
 
+use crate::name::Name;
+use sa_base::Memory;
 use std::alloc::Global;
 use std::marker::Model;
-
-use sa_base::Memory;
-
-use crate::name::Name;
 
 /// The names of descriptors and of arrays, each by its number.
 #[derive(Debug, Drop)]

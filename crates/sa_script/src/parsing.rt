@@ -6,13 +6,6 @@ ghost use Rattle.sa_script.specs.Faults.{fault_of, code_of, passes_entries};
 ghost use Rattle.sa_script.specs.Scripts.{Gives, meaning, told, line_after, plan_of};
 ghost use Rattle.sa_script.specs.Sound.{IsSoundContext};
 
-use std::alloc::Global;
-
-use sa_base::{Memory, Sequence};
-use sa_descr::{Descr, NaRule};
-use sa_lines::{cut_line, is_skipped};
-use sa_plain::{Items, ValueList};
-
 use crate::call::{Call, CallList, Op, Operand, OperandList, TaskList, View};
 use crate::cause::Cause;
 use crate::context::Context;
@@ -23,6 +16,11 @@ use crate::names::Names;
 use crate::reading::statement_of;
 use crate::script::Script;
 use crate::statement::Statement;
+use sa_base::{Memory, Sequence};
+use sa_descr::{Descr, NaRule};
+use sa_lines::{cut_line, is_skipped};
+use sa_plain::{Items, ValueList};
+use std::alloc::Global;
 
 /// The script that the bytes are: its declarations, names and calls. Otherwise the least faulty line,
 /// counted from 1, and the first fault of that line; a script without its end is cut at its last line.

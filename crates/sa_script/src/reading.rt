@@ -2,15 +2,13 @@ ghost use Rattle.std.specs.Prelude.{◌≡◌, Option, option_map, IfOk, Some, N
 ghost use Rattle.sa_lines.specs.Tokens.{tokens_of};
 ghost use Rattle.sa_script.specs.Statements.{statement_of, descr_of, array_of, set_of, show_of, rule_of, text_rule_of, coerce_of, length_of, alone};
 
-use std::alloc::Global;
-
-use sa_base::Memory;
-use sa_descr::NaRule;
-use sa_lines::{is_word, next_token, number_of};
-
 use crate::item::{list_of, text_token};
 use crate::name::name_of;
 use crate::statement::Statement;
+use sa_base::Memory;
+use sa_descr::NaRule;
+use sa_lines::{is_word, next_token, number_of};
+use std::alloc::Global;
 
 /// The statement that a line's tokens spell.
 pub fn statement_of<'a>(

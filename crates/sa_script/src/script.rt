@@ -1,11 +1,10 @@
 ghost use Rattle.std.specs.Prelude.{◌≡◌};
 ghost use Rattle.sa_script.specs.Sound.{IsSound};
 
-use std::marker::Model;
-
 use crate::call::TaskList;
 use crate::decls::Decls;
 use crate::names::Names;
+use std::marker::Model;
 
 /// A script: what it declares, the names, and its tasks' calls. Each call is valid under the
 /// declarations.

@@ -1,7 +1,6 @@
+use crate::name::Name;
 use sa_descr::NaRule;
 use sa_plain::ValueList;
-
-use crate::name::Name;
 
 /// A statement, as its line spells it. What passes a limit is none inside: a text that is too long, a
 /// number that is no i64, a list that is too long or has such a text.

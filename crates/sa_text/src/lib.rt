@@ -10,7 +10,7 @@ mod weight;
 pub use text::Text;
 pub use text_error::TextError;
 pub use value::Value;
-pub use weight::values_weight;
+pub use weight::{value_weight, values_weight};
 
 #[cfg(test)]
 mod tests;

@@ -1,4 +1,4 @@
-ghost use Rattle.std.specs.Prelude.{◌≡◌, ◌≤◌, ◌^◌, length, IfOk, IsUtf8, encode_utf8_all};
+ghost use Rattle.std.specs.Prelude.{◌≡◌, ◌≤◌, ◌^◌, length, [], IfOk, IsUtf8, encode_utf8_all};
 ghost use Rattle.std.specs.Str.{chars, bytes_eq};
 ghost use Rattle.sa_text.specs.Texts.{Gives, text_of};
 
@@ -28,6 +28,15 @@ impl Model for Text {
 }
 
 impl Text {
+    /// The empty text. It takes no memory.
+    pub fn new(alloc: Global) -> Text
+        ensures { result ≡ [] }
+    {
+        Text {
+            bytes: Vec::new(alloc),
+        }
+    }
+
     /// The text that the bytes are. More than 65,536 bytes are too long; at most that many that are
     /// not UTF-8 are refused as such.
     pub fn from_bytes(alloc: Global, bytes: &[u8]) -> Result<Text, TextError>

@@ -1,4 +1,5 @@
 ghost use Rattle.std.specs.Prelude.{◌≡◌, IfOk};
+ghost use Rattle.sa_text.specs.Values.{is_missing};
 
 use crate::text::Text;
 use sa_base::Memory;
@@ -20,5 +21,12 @@ impl Value {
             Value::Missing => Ok(Value::Missing),
             Value::Of(text) => Ok(Value::Of(text.copy(alloc)?)),
         }
+    }
+
+    /// Whether the value is missing.
+    pub fn is_missing(&self) -> bool
+        ensures { result ≡ is_missing self.now }
+    {
+        matches!(self, Value::Missing)
     }
 }

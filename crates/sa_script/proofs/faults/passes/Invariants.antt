@@ -1,4 +1,4 @@
-use Rattle.std.proofs.Common.{◌≡◌, ◌+◌, ◌≤◌, take}
+use Rattle.std.proofs.Common.{◌≡◌, ◌+◌, take}
 use Rattle.sa_script.specs.Decls.{entries_of}
 use Rattle.sa_script.proofs.faults.passes.Given as goal
 

@@ -1,4 +1,4 @@
-use Rattle.std.proofs.Common.{◌≡◌, ℕ, ◌-◌, ◌+◌, length, arith, sym, ap, ◌∙◌, Some, None}
+use Rattle.std.proofs.Common.{◌≡◌, ◌-◌, ◌+◌, length, arith, sym, ap, ◌∙◌, Some}
 use Rattle.std.proofs.lemmas.Bool.{ne_eqb}
 use Rattle.sa_script.specs.Items.{items_at, further_at}
 use Rattle.sa_script.proofs.ItemLemmas.{items_at_none, items_at_comma, items_at_closed, items_at_other}

@@ -11,9 +11,9 @@ lines-preserved c =
     let counted = c.lines.invariant.counted in
     record {
       read =
-        sym (judged_on c.lines.context c.line.new.self c.lines.number c.cut_line.result.0.now (lines_of c.cut_line.result.1.now) taken)
-        ∙ ap (judged c.lines.context c.lines.number) (sym c.cut_line.ensures.cut)
-        ∙ c.lines.invariant.read;
+          sym (judged_on c.lines.context c.line.new.self c.lines.number c.cut_line.result.0.now (lines_of c.cut_line.result.1.now) taken)
+          ∙ ap (judged c.lines.context c.lines.number) (sym c.cut_line.ensures.cut)
+          ∙ c.lines.invariant.read;
       sound = c.in-Ok-None.ensures.sound c.in-Ok-None.field-0-is;
       counted = omega arith;
     }

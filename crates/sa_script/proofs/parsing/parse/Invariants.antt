@@ -1,4 +1,4 @@
-use Rattle.std.proofs.Common.{◌≡◌, ◌≤◌, ◌+◌, ℕ, length, Result}
+use Rattle.std.proofs.Common.{◌≡◌, ◌≤◌, ◌+◌, length}
 use Rattle.sa_lines.specs.Lines.{lines_of}
 use Rattle.sa_script.specs.Contexts.{nothing}
 use Rattle.sa_script.specs.Scripts.{judged}

@@ -1,6 +1,5 @@
-use Rattle.std.proofs.Common.{◌≡◌, sym, ◌∙◌, ap, subst, Ok, Some, None, Option}
+use Rattle.std.proofs.Common.{◌≡◌, sym, ◌∙◌, ap, subst, Ok, Some, None}
 use Rattle.sa_lines.specs.Tokens.{tokens_of}
-use Rattle.sa_script.specs.declared.cause.Cause.{Cause}
 use Rattle.sa_script.specs.Faults.{fault_of}
 use Rattle.sa_script.specs.Statements.{statement_of}
 use Rattle.sa_script.specs.Sound.{IsSoundContext}

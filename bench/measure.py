@@ -1,0 +1,91 @@
+"""Runs the program on loads of growing size and prints time, memory, and time per byte of script and
+report together."""
+import os
+import subprocess
+import sys
+import tempfile
+import time
+
+MIB = 1 << 20
+
+
+def small(size):
+    """One array of 8 entries, and calls that set and show it, filled up with long texts."""
+    head = b"descr d absent\narray a d str 8\ntask\n"
+    room = size - len(head) - len(b"end\n")
+    texts = b'set a ("' + b'","'.join([b"x" * 4090] * 8) + b'")\n'
+    lines = [texts] * (room // len(texts))
+    used = sum(map(len, lines))
+    rest = room - used
+    return head + b"".join(lines) + b"#" + b"c" * (rest - 2) + b"\nend\n"
+
+
+def comments(size):
+    """Skipped lines alone."""
+    line = b"# a comment of a length that is usual in scripts\n"
+    return line * ((size - 4) // len(line)) + b"end\n"
+
+
+def wide(size):
+    """8 descriptors, 64 arrays, 64 tasks and 1,024 calls: lists of 8,192 and of 1,024 items while the
+    size allows, then calls of one item."""
+    lengths = [8192] + [1024] * 7 + [0] * 8 + [1024] * 48
+    for k in range(64):
+        if k % 8 == 0 and k > 0:
+            lengths[k] = 0
+    lengths = [length if k < 8 else (0 if k % 8 == 0 else 64) for k, length in enumerate(lengths)]
+    head = b"".join(b"descr d%d nan\n" % k for k in range(8))
+    head += b"".join(b"array a%d d%d str %d\n" % (k, k % 8, length) for k, length in enumerate(lengths))
+    tasks = [[] for _ in range(64)]
+    left = size - len(head) - 64 * 5 - 4 - 1024 * 16
+    for call in range(1024):
+        array = call % 8
+        line = b"set a%d (%s)\n" % (array, b",".join([b'"yyyy"'] * lengths[array]))
+        if len(line) > left:
+            array = 9 + call % 7
+            line = b'set a%d "z"\n' % array
+        left -= max(0, len(line) - 16)
+        tasks[call % 64].append(line)
+    script = head + b"".join(b"task\n" + b"".join(lines) for lines in tasks) + b"end\n"
+    assert len(script) <= size, len(script)
+    return script
+
+
+def escapes(size):
+    """Texts of control characters, of which each is written as its number."""
+    head = b"descr d absent\narray a d str 1\ntask\n"
+    line = b'set a "' + b"\\u{1}" * 10000 + b'"\n'
+    count = min(1000, (size - len(head) - 4) // len(line))
+    return head + line * count + b"end\n"
+
+
+def run(program, script):
+    """The best wall time of three runs, the peak memory in KiB, the status and the report's bytes."""
+    best = None
+    with tempfile.TemporaryFile() as source:
+        source.write(script)
+        for _ in range(3):
+            source.seek(0)
+            with tempfile.TemporaryFile() as sink:
+                start = time.perf_counter()
+                child = subprocess.Popen([program, "serial"], stdin=source, stdout=sink)
+                _, status, usage = os.wait4(child.pid, 0)
+                wall = time.perf_counter() - start
+                out = sink.seek(0, os.SEEK_END)
+            best = wall if best is None else min(best, wall)
+    return best, usage.ru_maxrss, os.waitstatus_to_exitcode(status), out
+
+
+def main():
+    program = sys.argv[1]
+    print(f"{'load':<10}{'MiB':>6}{'status':>8}{'wall s':>9}{'ns a byte':>11}{'peak MiB':>10}{'report MiB':>12}")
+    for name, make in (("small", small), ("comments", comments), ("wide", wide), ("escapes", escapes)):
+        for mib in (1, 2, 4):
+            script = make(mib * MIB)
+            wall, peak, status, out = run(program, script)
+            each = wall / (len(script) + out) * 1e9
+            print(f"{name:<10}{len(script) / MIB:>6.2f}{status:>8}{wall:>9.3f}{each:>11.1f}{peak / 1024:>10.1f}{out / MIB:>12.2f}")
+
+
+if __name__ == "__main__":
+    main()

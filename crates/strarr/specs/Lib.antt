@@ -1,0 +1,6 @@
+pub mod Endings
+pub mod Outputs
+pub mod Pieces
+pub mod Plays
+pub mod Runs
+pub mod Worlds

@@ -1,0 +1,84 @@
+ghost use Rattle.std.specs.Prelude.{◌≡◌, ◌≤◌, ◌<◌, ◌^◌, length, slice_index_or, IfOk, Some};
+ghost use Rattle.sa_text.specs.declared.value.Value.TheVariants.{Missing};
+ghost use Rattle.sa_script.specs.Effects.{stretched, refused, refusal_of, forbids};
+ghost use Rattle.strarr.specs.Runs.{gathered};
+
+use sa_base::Memory;
+use sa_descr::rule_of;
+use sa_plain::ValueList;
+use sa_script::{Decls, Refusal, View};
+use sa_text::{Value, value_weight};
+use std::alloc::Global;
+
+/// The most that one call weighs.
+pub const MOST_WEIGHT: u64 = 1_048_576;
+
+/// How many values a list has where it is stretched to a count.
+pub fn stretched_len(count: usize, values: &[Value]) -> usize
+    ensures { result ≡ length (stretched count values.now) }
+{
+    match values {
+        [_] => count,
+        _ => values.len(),
+    }
+}
+
+/// A value of a list that is stretched to a count.
+fn stretched_at(count: usize, values: &[Value], k: usize) -> &Value
+    requires { k < length (stretched count values.now) }
+    ensures { result.now ≡ slice_index_or (stretched count values.now) k Missing }
+{
+    match values {
+        [only] => only,
+        _ => &values[k],
+    }
+}
+
+/// Whether the output forbids missing values: its home's rule has none.
+pub fn forbids(decls: &Decls, out: &View) -> bool
+    requires { out.now.array < length decls.now.arrays }
+    ensures { result ≡ forbids decls.now (Some out.now) }
+{
+    let array = &decls.arrays()[out.array as usize];
+    !rule_of(decls.descrs(), array.home).is_given()
+}
+
+/// Why a result that follows this weight is refused, if it is.
+fn refusal_of(forbidden: bool, weight: u64, value: &Value) -> Option<Refusal>
+    requires { weight ≤ 1048576 }
+    ensures { result ≡ refusal_of forbidden weight value.now }
+{
+    if forbidden && value.is_missing() {
+        Some(Refusal::NoMissing)
+    } else if weight + value_weight(value) > MOST_WEIGHT {
+        Some(Refusal::TooMuch)
+    } else {
+        None
+    }
+}
+
+/// Copies of the values, stretched to a count, or the first refusal among them: a missing value that
+/// is forbidden, or one with which the weight passes its limit.
+pub fn gathered(
+    alloc: Global,
+    forbidden: bool,
+    weight: u64,
+    count: usize,
+    values: &[Value],
+) -> Result<Result<ValueList, (Refusal, u32)>, Memory>
+    requires light { weight ≤ 1048576 }
+    requires few { length (stretched count values.now) < 2 ^ 32 }
+    ensures { IfOk result (λ g. g ≡ gathered (stretched count values.now) (refused forbidden weight 0 (stretched count values.now))) }
+{
+    let mut weight = weight;
+    let mut results = ValueList::new(alloc);
+    for k in 0..stretched_len(count, values) {
+        let value = stretched_at(count, values, k);
+        if let Some(cause) = refusal_of(forbidden, weight, value) {
+            return Ok(Err((cause, k as u32)));
+        }
+        weight += value_weight(value);
+        results.push(value.copy(alloc)?)?;
+    }
+    Ok(Ok(results))
+}
