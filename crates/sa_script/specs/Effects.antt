@@ -30,7 +30,7 @@ refusal_code refusal.TooMuch = 4
 abbrev pub home_of : Declared → ℕ → ℕ
 home_of decls array = (array_at decls.arrays array).home
 
--- the items of one operand, in its own kind
+-- what was read of each descriptor, by its number
 abbrev pub Parts : Type 0
 Parts = List (ℕ × Part)
 

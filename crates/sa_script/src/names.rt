@@ -25,7 +25,7 @@ impl Model for Names {
 
 impl Names {
     /// No names. It takes no memory.
-    pub fn new(alloc: Global) -> Names
+    pub(crate) fn new(alloc: Global) -> Names
         ensures { result ≡ record { descrs = []; arrays = [] } }
     {
         Names {
@@ -49,28 +49,28 @@ impl Names {
     }
 
     /// The number of the descriptor of this name.
-    pub fn descr_number(&self, name: &Name<'_>) -> Option<usize>
+    pub(crate) fn descr_number(&self, name: &Name<'_>) -> Option<usize>
         ensures { result ≡ number_in self.now.descrs name.now }
     {
         number_in(self.descrs.as_slice(), name.as_str())
     }
 
     /// The number of the array of this name.
-    pub fn array_number(&self, name: &Name<'_>) -> Option<usize>
+    pub(crate) fn array_number(&self, name: &Name<'_>) -> Option<usize>
         ensures { result ≡ number_in self.now.arrays name.now }
     {
         number_in(self.arrays.as_slice(), name.as_str())
     }
 
     /// Whether a descriptor or an array of this name is declared.
-    pub fn is_known(&self, name: &Name<'_>) -> bool
+    pub(crate) fn is_known(&self, name: &Name<'_>) -> bool
         ensures { result ≡ is_known self.now name.now }
     {
         self.descr_number(name).is_some() || self.array_number(name).is_some()
     }
 
     /// Names one more descriptor.
-    pub fn add_descr(&mut self, alloc: Global, name: &Name<'_>) -> Result<(), Memory>
+    pub(crate) fn add_descr(&mut self, alloc: Global, name: &Name<'_>) -> Result<(), Memory>
         ensures { OnOk result (self.new ≡ record { descrs = self.old.descrs ++ name.now ∷ []; arrays = self.old.arrays }) }
     {
         self.descrs.push(String::from_str(alloc, name.as_str())?)?;
@@ -78,7 +78,7 @@ impl Names {
     }
 
     /// Names one more array.
-    pub fn add_array(&mut self, alloc: Global, name: &Name<'_>) -> Result<(), Memory>
+    pub(crate) fn add_array(&mut self, alloc: Global, name: &Name<'_>) -> Result<(), Memory>
         ensures { OnOk result (self.new ≡ record { descrs = self.old.descrs; arrays = self.old.arrays ++ name.now ∷ [] }) }
     {
         self.arrays.push(String::from_str(alloc, name.as_str())?)?;
