@@ -10,6 +10,7 @@ fn long_texts(rt: HostRuntime) -> Result<(), Fail> {
     let copy = text.copy(alloc)?;
     assert!(rt; copy.as_bytes() == longest.as_slice());
     assert!(rt; copy.is_same(&text));
+    assert!(rt; copy.into_bytes().as_slice() == longest.as_slice());
     for byte in [b'x', 0xff] {
         let bytes = vec![in alloc; byte; 65_537]?;
         assert_eq!(rt;

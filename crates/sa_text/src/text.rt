@@ -72,6 +72,16 @@ impl Text {
         self.bytes.as_slice()
     }
 
+    /// The text's UTF-8, handed out. It takes no memory.
+    pub fn into_bytes(self) -> Vec<u8>
+        ensures points { chars result.items ≡ self }
+        ensures bytes { result.items ≡ encode_utf8_all self }
+        ensures utf8 { IsUtf8 result.items }
+        ensures short { length result.items ≤ 65536 }
+    {
+        self.bytes
+    }
+
     /// Whether two texts are the same.
     pub fn is_same(&self, other: &Text) -> bool
         ensures { result ≡ bytes_eq self.now other.now }

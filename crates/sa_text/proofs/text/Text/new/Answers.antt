@@ -1,8 +1,7 @@
 -- No bytes are no code points.
-use Rattle.std.proofs.Common.{sym, ap, ◌∙◌, [], List, ℕ, subst, IsUtf8}
+use Rattle.std.proofs.Common.{ap, ◌∙◌}
 use Rattle.std.specs.Str.{chars}
-use Rattle.std.proofs.lemmas.Str.{chars-nil, IsUtf8-from_ascii}
-use Rattle.std.proofs.lemmas.Str.Ascii.{IsAscii-nil}
+use Rattle.std.proofs.lemmas.Str.{chars-nil}
 use Rattle.sa_text.proofs.text.Text.new.Goals as goal
 
 pub returns : goal.returns
