@@ -1,0 +1,260 @@
+-- Laws of layouts: a put keeps one sound, and changes the value of its entry alone.
+use Rattle.std.proofs.Common.{◌≡◌, ◌≤◌, ◌<◌, ◌≢◌, ◌+◌, nat_lt, ℕ, zero, suc, Bool, true, false, cond, List, [], ◌∷◌, ◌++◌, length, map, sum, replicate, count_by, Some, None, unwrap_or, refl, sym, ap, ◌∙◌, inl, inr, arith, get_or, set, length-set, get_or-set_other}
+use Rattle.std.proofs.lemmas.Grind.{common_steps}
+use Rattle.std.proofs.lemmas.Bool.{cases_Bool, eq-eqb}
+use Rattle.std.proofs.lemmas.Bool.Decides.{eqb_tells}
+use Rattle.std.proofs.lemmas.List.Sums.{sum_by-cons, sum_by-set, get_or-le-sum_by}
+use Rattle.std.proofs.Math.Dec.{eqb}
+use Rattle.sa_text.specs.declared.value.Value.{Value}
+use Rattle.sa_text.specs.declared.value.Value.TheVariants as value
+use Rattle.sa_text.specs.Texts.{text_size}
+use Rattle.sa_arena.specs.Extents.{Extent, extent_at, is_live, with_text, trimmed, has_text}
+use Rattle.sa_arena.proofs.ExtentLemmas.{live-below, trimmed-live, trimmed-extent_at, extent_at-end, extent_at-append, extent_at-with_text, extent_at-with_text_other}
+use Rattle.sa_alloc.specs.Layouts.{Layout, State, Fresh, Inline, In, Out, Miss, Brought, Nothing, Short, Long, brought, opening_layout, extents_after, state_after, state_at, put, IsSound, is_in, one_if, new_extent, fits_in, values_of, value_in}
+
+-- counts of members of a list
+
+pub counts_member : {X : Type 0} (p : X → Bool) → (xs : List X) (i : ℕ) (d : X) → i < length xs → p (get_or xs i d) ≡ true → 1 ≤ count_by p xs
+counts_member p xs i d h t =
+    let at_least : one_if (p (get_or xs i d)) ≤ count_by p xs = get_or-le-sum_by (λ x. cond (p x) 1 0) xs i d h in
+    let one : one_if (p (get_or xs i d)) ≡ 1 = rw t refl in
+    omega arith
+
+pub count-set : {X : Type 0} (p : X → Bool) → (xs : List X) (i : ℕ) (y d : X) → i < length xs → count_by p (set xs i y) + one_if (p (get_or xs i d)) ≡ count_by p xs + one_if (p y)
+count-set p xs i y d h = sum_by-set (λ x. cond (p x) 1 0) xs i y d h
+
+-- two members are counted as two
+pub counts_two : {X : Type 0} (p : X → Bool) → (xs : List X) (i j : ℕ) (d blank : X) → i < length xs → j < length xs → i ≢ j → p blank ≡ false → p (get_or xs i d) ≡ true → p (get_or xs j d) ≡ true → 2 ≤ count_by p xs
+counts_two p xs i j d blank hi hj ne is_no ti tj =
+    let without = count-set p xs i blank d hi in
+    let other : get_or (set xs i blank) j d ≡ get_or xs j d = get_or-set_other xs i j blank d (λ e. ne (sym e)) in
+    let len = length-set xs i blank in
+    let there = counts_member p (set xs i blank) j d (omega arith) (ap p other ∙ tj) in
+    let yes : one_if (p (get_or xs i d)) ≡ 1 = rw ti refl in
+    let zero_is : one_if (p blank) ≡ 0 = rw is_no refl in
+    omega arith
+
+-- two functions that agree on each member
+pub map-same : {A B : Type 0} (f g : A → B) → (xs : List A) (d : A) → ((j : ℕ) → j < length xs → g (get_or xs j d) ≡ f (get_or xs j d)) → map g xs ≡ map f xs
+map-same f g [] d same = refl
+map-same f g (y ∷ ys) d same =
+    let first : g y ≡ f y = same 0 (omega arith) in
+    ap (λ z. z ∷ map g ys) first ∙ ap (λ zs. f y ∷ zs) (map-same f g ys d (λ j h. same (suc j) (omega arith)))
+
+-- a list where one member is replaced, and where each other looks the same by another function
+pub map-set_but : {A B : Type 0} (f g : A → B) → (xs : List A) (i : ℕ) (x d : A) → ((j : ℕ) → j < length xs → j ≢ i → g (get_or xs j d) ≡ f (get_or xs j d)) → map g (set xs i x) ≡ set (map f xs) i (g x)
+map-set_but f g [] i x d same = refl
+map-set_but f g (y ∷ ys) zero x d same = ap (λ zs. g x ∷ zs) (map-same f g ys d (λ j h. same (suc j) (omega arith) (λ e. absurd (omega arith))))
+map-set_but f g (y ∷ ys) (suc i) x d same =
+    let first : g y ≡ f y = same 0 (omega arith) (λ e. absurd (omega arith)) in
+    ap (λ z. z ∷ map g (set ys i x)) first ∙ ap (λ zs. f y ∷ zs) (map-set_but f g ys i x d (λ j h ne. same (suc j) (omega arith) (λ e. ne (omega arith))))
+
+-- which extents are live after a change
+
+pub eqb-ne : (a b : ℕ) → a ≢ b → eqb a b ≡ false
+eqb-ne a b ne = elim (eqb_tells a b) [ inl w ↦ absurd (ne w.1) | inr w ↦ w.0 ]
+
+pub eqb-suc : (a b : ℕ) → eqb (suc a) (suc b) ≡ eqb a b
+eqb-suc a b =
+    elim (eqb_tells a b) [
+      | inl w ↦ eq-eqb (suc a) (suc b) (ap suc w.1) ∙ sym w.0
+      | inr w ↦ eqb-ne (suc a) (suc b) (λ e. w.1 (omega arith)) ∙ sym w.0
+    ]
+
+pub live-push : (es : List Extent) (e : Extent) (k : ℕ) → has_text e ≡ true → one_if (is_live (es ++ e ∷ []) k) ≡ one_if (is_live es k) + one_if (eqb (length es) k)
+live-push [] e zero t = rw t refl
+live-push [] e (suc k) t = let f_is : eqb 0 (suc k) ≡ false = eqb-ne 0 (suc k) (λ e. absurd (omega arith)) in rw f_is refl
+live-push (x ∷ es) e zero t = let f_is : eqb (suc (length es)) 0 ≡ false = eqb-ne (suc (length es)) 0 (λ e. absurd (omega arith)) in rw f_is (omega arith)
+live-push (x ∷ es) e (suc k) t = live-push es e k t ∙ ap (λ b. one_if (is_live es k) + one_if b) (sym (eqb-suc (length es) k))
+
+pub live-with_none : (es : List Extent) (j k : ℕ) → is_live es j ≡ true → one_if (is_live (with_text es j None) k) + one_if (eqb j k) ≡ one_if (is_live es k)
+live-with_none es j k t =
+    elim (eqb_tells j k) [
+      | inl w ↦
+          let same = extent_at-with_text es j None (live-below es j t) in
+          let dead : is_live (with_text es j None) k ≡ false = ap (is_live (with_text es j None)) (sym w.1) ∙ ap has_text same in
+          let live : is_live es k ≡ true = ap (is_live es) (sym w.1) ∙ t in
+          rw (dead, live, w.0) refl
+      | inr w ↦
+          let other = extent_at-with_text_other es j k None (λ e. w.1 (sym e)) in
+          let same : is_live (with_text es j None) k ≡ is_live es k = ap has_text other in
+          rw (same, w.0) (omega arith)
+    ]
+
+pub live-with_some : (es : List Extent) (j : ℕ) (t : List ℕ) (k : ℕ) → is_live es j ≡ true → is_live (with_text es j (Some t)) k ≡ is_live es k
+live-with_some es j t k live =
+    elim (eqb_tells j k) [
+      | inl w ↦
+          let same = extent_at-with_text es j (Some t) (live-below es j live) in
+          ap (is_live (with_text es j (Some t))) (sym w.1) ∙ ap has_text same ∙ sym live ∙ ap (is_live es) w.1
+      | inr w ↦ ap has_text (extent_at-with_text_other es j k (Some t) (λ e. w.1 (sym e)))
+    ]
+
+-- the extent that a state names is live
+abbrev pub Named : List Extent → State → Type 0
+Named es Fresh = Unit {0}
+Named es (Inline text) = Unit {0}
+Named es (In k) = is_live es k ≡ true
+Named es (Out text) = Unit {0}
+Named es Miss = Unit {0}
+
+pub named_at : (l : Layout) (i : ℕ) → IsSound l → i < length l.states → Named l.extents (state_at l.states i)
+named_at l i sound h = by_state (state_at l.states i) refl
+  where
+    by_state : (s : State) → state_at l.states i ≡ s → Named l.extents s
+    by_state Fresh e = tt
+    by_state (Inline text) e = tt
+    by_state (Out text) e = tt
+    by_state Miss e = tt
+    by_state (In k) e =
+        let here : is_in k (state_at l.states i) ≡ true = ap (is_in k) e ∙ grind (arith, common_steps) in
+        let some = counts_member (is_in k) l.states i Fresh h here in
+        let count = sound.named k in
+        elim (cases_Bool (is_live l.extents k)) [
+          | inl t ↦ t
+          | inr f ↦ let none : one_if (is_live l.extents k) ≡ 0 = rw f refl in absurd (omega arith)
+        ]
+
+-- what a put adds to the live extents, it adds to the names
+pub balance : (es : List Extent) (s : State) (b : Brought) (k : ℕ) → Named es s → one_if (is_live (extents_after es s b) k) + one_if (is_in k s) ≡ one_if (is_live es k) + one_if (is_in k (state_after es s b))
+balance es Fresh Nothing k n = refl
+balance es Fresh (Short t) k n = refl
+balance es Fresh (Long t) k n = let push = live-push es (new_extent t) k refl in omega arith
+balance es (Inline u) Nothing k n = refl
+balance es (Inline u) (Short t) k n = refl
+balance es (Inline u) (Long t) k n = refl
+balance es (Out u) Nothing k n = refl
+balance es (Out u) (Short t) k n = refl
+balance es (Out u) (Long t) k n = refl
+balance es Miss Nothing k n = refl
+balance es Miss (Short t) k n = refl
+balance es Miss (Long t) k n = refl
+balance es (In j) Nothing k n = let gone = live-with_none es j k n in omega arith
+balance es (In j) (Short t) k n = let gone = live-with_none es j k n in omega arith
+balance es (In j) (Long t) k n =
+    elim (cases_Bool (fits_in es j t)) [
+      | inl t_is ↦ let same : one_if (is_live (with_text es j (Some t)) k) ≡ one_if (is_live es k) = ap one_if (live-with_some es j t k n) in rw t_is (omega arith)
+      | inr f_is ↦ let gone = live-with_none es j k n in rw f_is (omega arith)
+    ]
+
+pub put-sound : (l : Layout) (i : ℕ) (v : Value) → IsSound l → i < length l.states → IsSound (put l i v)
+put-sound l i v sound h = record {
+  named = λ k.
+      let b = brought v in
+      let s = state_at l.states i in
+      let set_is = count-set (is_in k) l.states i (state_after l.extents s b) Fresh h in
+      let even = balance l.extents s b k (named_at l i sound h) in
+      let trim : one_if (is_live (trimmed (extents_after l.extents s b)) k) ≡ one_if (is_live (extents_after l.extents s b) k) = ap one_if (trimmed-live (extents_after l.extents s b) k) in
+      let before = sound.named k in
+      omega arith;
+}
+
+pub count-replicate : (k n : ℕ) → count_by (is_in k) (replicate n Fresh) ≡ 0
+count-replicate k zero = refl
+count-replicate k (suc n) = sum_by-cons (λ x. cond (is_in k x) 1 0) Fresh (replicate n Fresh) ∙ ap (λ m. 0 + m) (count-replicate k n)
+
+pub opening-sound : (lengths : List ℕ) → IsSound (opening_layout lengths)
+opening-sound lengths = record { named = λ k. count-replicate k (sum lengths) }
+
+-- the value of another entry stays
+
+abbrev pub Apart : ℕ → State → Type 0
+Apart k Fresh = Unit {0}
+Apart k (Inline text) = Unit {0}
+Apart k (In j) = j ≢ k
+Apart k (Out text) = Unit {0}
+Apart k Miss = Unit {0}
+
+-- two states name no extent in common
+abbrev pub Disjoint : State → State → Type 0
+Disjoint Fresh t = Unit {0}
+Disjoint (Inline text) t = Unit {0}
+Disjoint (In k) t = Apart k t
+Disjoint (Out text) t = Unit {0}
+Disjoint Miss t = Unit {0}
+
+pub text_in-after : (es : List Extent) (s : State) (b : Brought) (n : ℕ) → is_live es n ≡ true → Disjoint s (In n) → extent_at (extents_after es s b) n ≡ extent_at es n
+text_in-after es Fresh Nothing n live apart = refl
+text_in-after es Fresh (Short t) n live apart = refl
+text_in-after es Fresh (Long t) n live apart = extent_at-append es (new_extent t ∷ []) n (live-below es n live)
+text_in-after es (Inline u) b n live apart = refl
+text_in-after es (Out u) b n live apart = refl
+text_in-after es Miss b n live apart = refl
+text_in-after es (In j) Nothing n live apart = extent_at-with_text_other es j n None apart
+text_in-after es (In j) (Short t) n live apart = extent_at-with_text_other es j n None apart
+text_in-after es (In j) (Long t) n live apart =
+    elim (cases_Bool (fits_in es j t)) [
+      | inl t_is ↦ rw t_is (extent_at-with_text_other es j n (Some t) apart)
+      | inr f_is ↦ rw f_is (extent_at-with_text_other es j n None apart)
+    ]
+
+pub value-other : (es : List Extent) (s : State) (b : Brought) (t : State) → Named es t → Disjoint s t → value_in (trimmed (extents_after es s b)) t ≡ value_in es t
+value-other es s b Fresh named apart = refl
+value-other es s b (Inline text) named apart = refl
+value-other es s b (Out text) named apart = refl
+value-other es s b Miss named apart = refl
+value-other es s b (In n) named apart =
+    let same = text_in-after es s b n named (in_apart s apart) in
+    let live : is_live (extents_after es s b) n ≡ true = ap has_text same ∙ named in
+    ap (λ e. value.Of (unwrap_or e.text [])) (trimmed-extent_at (extents_after es s b) n live ∙ same)
+  where
+    in_apart : (s : State) → Disjoint s (In n) → Disjoint s (In n)
+    in_apart s h = h
+
+abbrev pub value_of : Brought → Value
+value_of Nothing = value.Missing
+value_of (Short text) = value.Of text
+value_of (Long text) = value.Of text
+
+pub value_of-brought : (v : Value) → value_of (brought v) ≡ v
+value_of-brought value.Missing = refl
+value_of-brought (value.Of text) =
+    elim (cases_Bool (nat_lt (text_size text) 16)) [ inl t ↦ rw t refl | inr f ↦ rw f refl ]
+
+pub value-put : (es : List Extent) (s : State) (b : Brought) → Named es s → value_in (trimmed (extents_after es s b)) (state_after es s b) ≡ value_of b
+value-put es s Nothing n = refl
+value-put es s (Short t) n = refl
+value-put es (Inline u) (Long t) n = refl
+value-put es (Out u) (Long t) n = refl
+value-put es Miss (Long t) n = refl
+value-put es Fresh (Long t) n =
+    let here = extent_at-end es (new_extent t) in
+    let live : is_live (es ++ new_extent t ∷ []) (length es) ≡ true = ap has_text here in
+    ap (λ e. value.Of (unwrap_or e.text [])) (trimmed-extent_at (es ++ new_extent t ∷ []) (length es) live ∙ here)
+value-put es (In j) (Long t) n =
+    elim (cases_Bool (fits_in es j t)) [
+      | inl t_is ↦
+          let here = extent_at-with_text es j (Some t) (live-below es j n) in
+          let live : is_live (with_text es j (Some t)) j ≡ true = ap has_text here in
+          rw t_is (ap (λ e. value.Of (unwrap_or e.text [])) (trimmed-extent_at (with_text es j (Some t)) j live ∙ here))
+      | inr f_is ↦ rw f_is refl
+    ]
+
+pub disjoint_at : (l : Layout) (i j : ℕ) → IsSound l → i < length l.states → j < length l.states → j ≢ i → Disjoint (state_at l.states i) (state_at l.states j)
+disjoint_at l i j sound hi hj ne = by_states (state_at l.states i) (state_at l.states j) refl refl
+  where
+    by_states : (s t : State) → state_at l.states i ≡ s → state_at l.states j ≡ t → Disjoint s t
+    by_states Fresh t e f = tt
+    by_states (Inline u) t e f = tt
+    by_states (Out u) t e f = tt
+    by_states Miss t e f = tt
+    by_states (In k) Fresh e f = tt
+    by_states (In k) (Inline u) e f = tt
+    by_states (In k) (Out u) e f = tt
+    by_states (In k) Miss e f = tt
+    by_states (In k) (In n) e f = λ same.
+        let yes_i : is_in k (state_at l.states i) ≡ true = ap (is_in k) e ∙ eq-eqb k k refl in
+        let yes_j : is_in k (state_at l.states j) ≡ true = ap (is_in k) f ∙ eq-eqb n k same in
+        let two = counts_two (is_in k) l.states i j Fresh Fresh hi hj (λ q. ne (sym q)) refl yes_i yes_j in
+        let count = sound.named k in
+        let most : one_if (is_live l.extents k) ≤ 1 = elim (cases_Bool (is_live l.extents k)) [ inl t ↦ rw t (omega arith) | inr g ↦ rw g (omega arith) ] in
+        absurd (omega arith)
+
+pub values-put : (l : Layout) (i : ℕ) (v : Value) → IsSound l → i < length l.states → values_of (put l i v) ≡ set (values_of l) i v
+values-put l i v sound h =
+    let b = brought v in
+    let s = state_at l.states i in
+    let after = trimmed (extents_after l.extents s b) in
+    map-set_but (value_in l.extents) (value_in after) l.states i (state_after l.extents s b) Fresh
+    (λ j hj ne. value-other l.extents s b (state_at l.states j) (named_at l j sound hj) (disjoint_at l i j sound h hj ne))
+    ∙ ap (set (values_of l) i) (value-put l.extents s b (named_at l i sound h) ∙ value_of-brought v)

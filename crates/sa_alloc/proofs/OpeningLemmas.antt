@@ -1,0 +1,51 @@
+-- A new store.
+use Rattle.std.proofs.Common.{◌≡◌, ◌<◌, ◌≤◌, ℕ, zero, suc, List, [], ◌∷◌, length, map, sum, take, replicate, Option, refl, sym, ap, ◌∙◌, subst, arith, get_or}
+use Rattle.std.proofs.lemmas.List.{length-replicate, take_all}
+use Rattle.std.proofs.lemmas.List.Folds.{sum_by-replicate}
+use Rattle.sa_entry.specs.Slots.{Slot, Fresh}
+use Rattle.sa_arena.specs.Extents.{Extent}
+use Rattle.sa_alloc.specs.Layouts as layouts
+use Rattle.sa_alloc.specs.Layouts.{Layout, State, IsSound, opening_layout, one_if}
+use Rattle.sa_alloc.specs.Ties.{IsSmall, IsStore, state_of, layout_from, IsTied, slot_at, is_at_key, is_outside, Fits}
+use Rattle.sa_alloc.proofs.LayoutLemmas.{opening-sound}
+
+states-fresh : (es : List Extent) (ks : List (Option (List ℕ))) (n : ℕ) → map (state_of es ks) (replicate n Fresh) ≡ replicate n layouts.Fresh
+states-fresh es ks zero = refl
+states-fresh es ks (suc n) = ap (λ ss. layouts.Fresh ∷ ss) (states-fresh es ks n)
+
+slots-fresh : (n i : ℕ) → slot_at (replicate n Fresh) i ≡ Fresh
+slots-fresh zero i = refl
+slots-fresh (suc n) zero = refl
+slots-fresh (suc n) (suc i) = slots-fresh n i
+
+pub opened-layout : (lengths : List ℕ) → layout_from lengths [] [] (replicate (sum lengths) Fresh) ≡ opening_layout lengths
+opened-layout lengths = ap (λ ss. let l : Layout = record { lengths = lengths; extents = []; states = ss } in l) (states-fresh [] [] (sum lengths))
+
+pub opened : (lengths : List ℕ) → IsTied lengths [] [] (replicate (sum lengths) Fresh)
+opened lengths = record {
+  sound = subst IsSound (sym (opened-layout lengths)) (opening-sound lengths);
+  keyed = λ key. let none = sum_by-replicate (λ s. one_if (is_at_key key s)) (sum lengths) Fresh in omega arith;
+  outside = let none = sum_by-replicate (λ s. one_if (is_outside s)) (sum lengths) Fresh in omega arith;
+  fits = λ i h. subst (Fits [] []) (sym (slots-fresh (sum lengths) i)) tt;
+  held = λ k live. cc;
+  kept = λ key used. cc;
+  trim = refl;
+  entries = length-replicate (sum lengths) Fresh;
+}
+
+-- the parts of a new store
+pub opened-store : (lengths items starts : List ℕ) (es : List Extent) (ks : List (Option (List ℕ))) (ss : List Slot) (total count : ℕ)
+    → items ≡ lengths → es ≡ [] → ks ≡ [] → ss ≡ replicate total Fresh → total ≡ sum (take count lengths) → length lengths ≤ count
+    → length starts ≡ length lengths → ((k : ℕ) → k < length lengths → get_or starts k 0 ≡ sum (take k lengths)) → IsSmall lengths
+    → IsStore items starts es ks ss
+opened-store lengths items starts es ks ss total count items_is es_is ks_is ss_is total_is all same starts_are small =
+    let ss_all : ss ≡ replicate (sum lengths) Fresh = ss_is ∙ ap (λ n. replicate n Fresh) (total_is ∙ ap sum (take_all count lengths all)) in
+    let it : IsStore lengths starts [] [] (replicate (sum lengths) Fresh) = record { tied = opened lengths; starts_are = (same, starts_are); small = small } in
+    subst (λ x. IsStore x starts es ks ss) (sym items_is) (subst (λ x. IsStore lengths starts x ks ss) (sym es_is) (subst (λ x. IsStore lengths starts [] x ss) (sym ks_is) (subst (IsStore lengths starts [] []) (sym ss_all) it)))
+
+pub opened-view : (lengths items : List ℕ) (es : List Extent) (ks : List (Option (List ℕ))) (ss : List Slot) (total count : ℕ)
+    → items ≡ lengths → es ≡ [] → ks ≡ [] → ss ≡ replicate total Fresh → total ≡ sum (take count lengths) → length lengths ≤ count
+    → layout_from items es ks ss ≡ opening_layout lengths
+opened-view lengths items es ks ss total count items_is es_is ks_is ss_is total_is all =
+    let ss_all : ss ≡ replicate (sum lengths) Fresh = ss_is ∙ ap (λ n. replicate n Fresh) (total_is ∙ ap sum (take_all count lengths all)) in
+    ap (λ x. layout_from x es ks ss) items_is ∙ ap (λ x. layout_from lengths x ks ss) es_is ∙ ap (λ x. layout_from lengths [] x ss) ks_is ∙ ap (layout_from lengths [] []) ss_all ∙ opened-layout lengths

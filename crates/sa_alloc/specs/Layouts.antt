@@ -1,0 +1,157 @@
+-- The layout of one descriptor: where the text of each entry lies. Source: NEP 55; the table of transitions is this project's own.
+use Rattle.std.specs.Prelude.{◌≡◌, ℕ, ◌==◌, nat_lt, nat_le, Bool, true, false, if◌then◌else◌, List, [], ◌∷◌, ◌++◌, length, map, take, sum, count_by, replicate, slice_index_or, slice_set, Some, None, option_map, unwrap_or, encode_utf8_all}
+use Rattle.sa_base.specs.declared.stats.Stats.{Stats}
+use Rattle.sa_text.specs.Texts.{text_size}
+use Rattle.sa_text.specs.declared.value.Value.{Value}
+use Rattle.sa_text.specs.declared.value.Value.TheVariants as value
+use Rattle.sa_entry.specs.Slots.{Slot, spelling}
+use Rattle.sa_entry.specs.Slots as slot
+use Rattle.sa_arena.specs.Extents.{Extent, extent_at, is_live, offset_of, with_text, trimmed, cursor_of, live_bytes, dead_bytes}
+use Rattle.sa_arena.specs.Images.{image_of}
+
+-- The state of an entry: fresh; a text inside its slot; a text in the extent of this number; a text outside the arena; or missing.
+pub data State : Type 0 where
+  Fresh : State
+  Inline : List ℕ → State
+  In : ℕ → State
+  Out : List ℕ → State
+  Miss : State
+
+-- A layout: the lengths of the arrays, the extents in order of creation with the code points of their texts, and the states of the entries, array by array.
+pub record Layout : Type 0 where
+  pub lengths : List ℕ
+  pub extents : List Extent
+  pub states : List State
+
+-- the layout before the first put
+abbrev pub opening_layout : List ℕ → Layout
+opening_layout lengths = record { lengths = lengths; extents = []; states = replicate (sum lengths) Fresh }
+
+-- the number of an array's first entry: the entries of the arrays before it
+abbrev pub first_entry : List ℕ → ℕ → ℕ
+first_entry lengths array = sum (take array lengths)
+
+-- the state of an entry; fresh where there is none
+abbrev pub state_at : List State → ℕ → State
+state_at states entry = slice_index_or states entry Fresh
+
+-- what a put brings: a missing value, a text that fits into a slot, or a longer one
+pub data Brought : Type 0 where
+  Nothing : Brought
+  Short : List ℕ → Brought
+  Long : List ℕ → Brought
+
+abbrev pub brought : Value → Brought
+brought value.Missing = Nothing
+brought (value.Of text) = if nat_lt (text_size text) 16 then Short text else Long text
+
+-- the text fits into the extent of a number
+abbrev pub fits_in : List Extent → ℕ → List ℕ → Bool
+fits_in extents k text = nat_le (text_size text) (extent_at extents k).capacity
+
+-- a new extent of a text, with room for it alone
+abbrev pub new_extent : List ℕ → Extent
+new_extent text = record { capacity = text_size text; text = Some text }
+
+-- The extents after a put, by the old state of its entry and what it brings: a fresh entry's long text is appended, a long text that fits takes the place of its entry's text, and the extent of an entry that leaves it dies.
+abbrev pub extents_after : List Extent → State → Brought → List Extent
+extents_after extents Fresh (Long text) = extents ++ new_extent text ∷ []
+extents_after extents (In k) Nothing = with_text extents k None
+extents_after extents (In k) (Short text) = with_text extents k None
+extents_after extents (In k) (Long text) = if fits_in extents k text then with_text extents k (Some text) else with_text extents k None
+extents_after extents Fresh Nothing = extents
+extents_after extents Fresh (Short text) = extents
+extents_after extents (Inline old) new = extents
+extents_after extents (Out old) new = extents
+extents_after extents Miss new = extents
+
+-- the state of the entry after it
+abbrev pub state_after : List Extent → State → Brought → State
+state_after extents old Nothing = Miss
+state_after extents old (Short text) = Inline text
+state_after extents Fresh (Long text) = In (length extents)
+state_after extents (In k) (Long text) = if fits_in extents k text then In k else Out text
+state_after extents (Inline old) (Long text) = Out text
+state_after extents (Out old) (Long text) = Out text
+state_after extents Miss (Long text) = Out text
+
+-- The put of a value into an entry, in its two parts: the first changes the extents by the table, the second removes the dead ones at the end.
+abbrev pub put : Layout → ℕ → Value → Layout
+put l entry v = record {
+  lengths = l.lengths;
+  extents = trimmed (extents_after l.extents (state_at l.states entry) (brought v));
+  states = slice_set l.states entry (state_after l.extents (state_at l.states entry) (brought v));
+}
+
+-- puts one after another, each of an entry's number and a value
+abbrev pub put_all : Layout → List (ℕ × Value) → Layout
+put_all l [] = l
+put_all l (p ∷ ps) = put_all (put l p.0 p.1) ps
+
+-- the text of an extent; the empty one where it is dead
+abbrev pub extent_text : Extent → List ℕ
+extent_text e = unwrap_or e.text []
+
+abbrev pub text_in : List Extent → ℕ → List ℕ
+text_in extents k = extent_text (extent_at extents k)
+
+-- the value that an entry of this state holds: a fresh one reads as the empty text
+abbrev pub value_in : List Extent → State → Value
+value_in extents Fresh = value.Of []
+value_in extents (Inline text) = value.Of text
+value_in extents (In k) = value.Of (text_in extents k)
+value_in extents (Out text) = value.Of text
+value_in extents Miss = value.Missing
+
+abbrev pub value_at : Layout → ℕ → Value
+value_at l entry = value_in l.extents (state_at l.states entry)
+
+-- the values of all entries
+abbrev pub values_of : Layout → List Value
+values_of l = map (value_in l.extents) l.states
+
+-- the entry names the extent of a number
+abbrev pub is_in : ℕ → State → Bool
+is_in k Fresh = false
+is_in k (Inline text) = false
+is_in k (In j) = j == k
+is_in k (Out text) = false
+is_in k Miss = false
+
+abbrev pub is_out : State → Bool
+is_out Fresh = false
+is_out (Inline text) = false
+is_out (In k) = false
+is_out (Out text) = true
+is_out Miss = false
+
+abbrev pub one_if : Bool → ℕ
+one_if b = if b then 1 else 0
+
+-- each live extent is named by exactly one entry, and no other number is named
+pub record IsSound (l : Layout) : Type 0 where
+  pub named : (k : ℕ) → count_by (is_in k) l.states ≡ one_if (is_live l.extents k)
+
+-- the statistics of a layout: bytes with prefixes, and how many texts are outside
+abbrev pub stats_of : Layout → Stats
+stats_of l = record { cursor = cursor_of l.extents; live = live_bytes l.extents; dead = dead_bytes l.extents; outside = count_by is_out l.states }
+
+-- an extent with the UTF-8 of its text
+abbrev pub encoded : Extent → Extent
+encoded e = record { capacity = e.capacity; text = option_map encode_utf8_all e.text }
+
+-- the bytes of the arena
+abbrev pub arena_image : Layout → List ℕ
+arena_image l = image_of (map encoded l.extents)
+
+-- what the slot of an entry says, with 0 in place of the key of an outside text; the prefix is long by the extent's capacity
+abbrev pub slot_of : List Extent → State → Slot
+slot_of extents Fresh = slot.Fresh
+slot_of extents (Inline text) = slot.Inline (encode_utf8_all text)
+slot_of extents (In k) = slot.InArena (offset_of extents k) (text_size (text_in extents k)) (nat_lt 255 (extent_at extents k).capacity)
+slot_of extents (Out text) = slot.Outside 0 (text_size text)
+slot_of extents Miss = slot.Missing
+
+-- the sixteen bytes of an entry, with zeros in place of a key
+abbrev pub entry_image : Layout → ℕ → List ℕ
+entry_image l entry = spelling (slot_of l.extents (state_at l.states entry))

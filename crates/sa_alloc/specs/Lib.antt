@@ -1,0 +1,12 @@
+pub use Rattle.sa_arena.specs.Extents
+pub use Rattle.sa_arena.specs.Images
+pub use Rattle.sa_entry.specs.Slots
+pub mod Laws
+pub mod Layouts
+pub mod Needs
+pub mod Planned
+pub mod Plans
+pub mod Steps
+pub mod Stored
+pub mod Stores
+pub mod Ties

@@ -1,0 +1,9 @@
+-- What contracts see of a store.
+use Rattle.std.specs.Prelude.{ℕ}
+use Rattle.sa_alloc.specs.Layouts.{Layout}
+
+-- a store: its layout, and its room, which is the bytes of the arena's buffer and the texts that can be put outside with no memory
+pub record Stored : Type 0 where
+  pub layout : Layout
+  pub size : ℕ
+  pub spare : ℕ

@@ -1,0 +1,119 @@
+-- How the parts of a store make its layout, and what every store keeps.
+use Rattle.std.specs.Prelude.{◌≡◌, ℕ, ◌<◌, ◌≤◌, ◌==◌, nat_lt, Bool, true, false, List, [], length, map, sum, count_by, slice_index_or, Option, option_map, is_some, unwrap_or, IsUtf8}
+use Rattle.std.specs.Str.{chars}
+use Rattle.sa_entry.specs.Slots.{Slot, Fresh, Inline, InArena, Outside, Missing}
+use Rattle.sa_arena.specs.Extents.{Extent, extent_at, has_text, is_live, number_at, trimmed}
+use Rattle.sa_outside.specs.Keyed.{bytes_at, is_used, used_count}
+use Rattle.sa_alloc.specs.Layouts as layouts
+use Rattle.sa_alloc.specs.Layouts.{State, Layout, IsSound, extent_text, one_if}
+
+-- the bytes under a key; none where it is not in use
+abbrev pub text_under : List (Option (List ℕ)) → ℕ → List ℕ
+text_under texts key = unwrap_or (bytes_at texts key) []
+
+-- the state of an entry, by what its slot says
+abbrev pub state_of : List Extent → List (Option (List ℕ)) → Slot → State
+state_of extents texts Fresh = layouts.Fresh
+state_of extents texts (Inline bytes) = layouts.Inline (chars bytes)
+state_of extents texts (InArena at size long) = layouts.In (number_at extents at)
+state_of extents texts (Outside key size) = layouts.Out (chars (text_under texts key))
+state_of extents texts Missing = layouts.Miss
+
+-- an extent with the code points of its text
+abbrev pub decoded : Extent → Extent
+decoded e = record { capacity = e.capacity; text = option_map chars e.text }
+
+-- the layout of a store, by its parts
+abbrev pub layout_from : List ℕ → List Extent → List (Option (List ℕ)) → List Slot → Layout
+layout_from lengths extents texts slots = record { lengths = lengths; extents = map decoded extents; states = map (state_of extents texts) slots }
+
+-- bytes that stand outside a slot
+pub record IsOuter (bytes : List ℕ) : Type 0 where
+  pub utf8 : IsUtf8 bytes
+  pub least : 16 ≤ length bytes
+  pub most : length bytes ≤ 65536
+
+-- an extent has the bytes of a text, which fit into it
+pub record HoldsText (e : Extent) : Type 0 where
+  pub outer : IsOuter (extent_text e)
+  pub room : length (extent_text e) ≤ e.capacity
+
+-- a slot that names an extent has its text's size, and says whether its prefix is long
+pub record NamesExtent (e : Extent) (size : ℕ) (long : Bool) : Type 0 where
+  pub live : has_text e ≡ true
+  pub sized : length (extent_text e) ≡ size
+  pub prefix : nat_lt 255 e.capacity ≡ long
+
+-- a slot that names a key has the size of the bytes there
+pub record NamesBytes (bytes : Option (List ℕ)) (size : ℕ) : Type 0 where
+  pub used : is_some bytes ≡ true
+  pub sized : length (unwrap_or bytes []) ≡ size
+
+-- what a slot says is so
+abbrev pub Fits : List Extent → List (Option (List ℕ)) → Slot → Type 0
+Fits extents texts Fresh = Unit {0}
+Fits extents texts (Inline bytes) = IsUtf8 bytes × (length bytes < 16)
+Fits extents texts (InArena at size long) = NamesExtent (extent_at extents (number_at extents at)) size long
+Fits extents texts (Outside key size) = NamesBytes (bytes_at texts key) size
+Fits extents texts Missing = Unit {0}
+
+-- the slot of an entry; fresh where there is none
+abbrev pub slot_at : List Slot → ℕ → Slot
+slot_at slots entry = slice_index_or slots entry Fresh
+
+-- the slot names this key
+abbrev pub is_at_key : ℕ → Slot → Bool
+is_at_key key Fresh = false
+is_at_key key (Inline bytes) = false
+is_at_key key (InArena at size long) = false
+is_at_key key (Outside other size) = other == key
+is_at_key key Missing = false
+
+abbrev pub is_outside : Slot → Bool
+is_outside Fresh = false
+is_outside (Inline bytes) = false
+is_outside (InArena at size long) = false
+is_outside (Outside key size) = true
+is_outside Missing = false
+
+-- Every store keeps: each live extent is named by exactly one entry, and each key in use too; what a slot says is so; texts are UTF-8 and fit where they lie; the last extent is live; and there are as many slots as the arrays have entries.
+pub record IsTied (lengths : List ℕ) (extents : List Extent) (texts : List (Option (List ℕ))) (slots : List Slot) : Type 0 where
+  pub sound : IsSound (layout_from lengths extents texts slots)
+  pub keyed : (key : ℕ) → count_by (is_at_key key) slots ≡ one_if (is_used texts key)
+  pub outside : count_by is_outside slots ≡ used_count texts
+  pub fits : (entry : ℕ) → entry < length slots → Fits extents texts (slot_at slots entry)
+  pub held : (k : ℕ) → is_live extents k ≡ true → HoldsText (extent_at extents k)
+  pub kept : (key : ℕ) → is_used texts key ≡ true → IsOuter (text_under texts key)
+  pub trim : trimmed extents ≡ extents
+  pub entries : length slots ≡ sum lengths
+
+-- the numbers of the arrays' first entries
+abbrev pub AreStarts : List ℕ → List ℕ → Type 0
+AreStarts lengths starts = (length starts ≡ length lengths) × ((array : ℕ) → array < length lengths → slice_index_or starts array 0 ≡ layouts.first_entry lengths array)
+
+-- the limits of a store
+pub record IsSmall (lengths : List ℕ) : Type 0 where
+  pub arrays : length lengths ≤ 64
+  pub entries : sum lengths ≤ 8192
+
+-- all of it
+pub record IsStore (lengths starts : List ℕ) (extents : List Extent) (texts : List (Option (List ℕ))) (slots : List Slot) : Type 0 where
+  pub tied : IsTied lengths extents texts slots
+  pub starts_are : AreStarts lengths starts
+  pub small : IsSmall lengths
+
+-- a slot with 0 in place of a key
+abbrev pub without_key : Slot → Slot
+without_key Fresh = Fresh
+without_key (Inline bytes) = Inline bytes
+without_key (InArena at size long) = InArena at size long
+without_key (Outside key size) = Outside 0 size
+without_key Missing = Missing
+
+-- a slot that names a key has a size that stands outside a slot
+abbrev pub IsSized : Slot → Type 0
+IsSized Fresh = Unit {0}
+IsSized (Inline bytes) = Unit {0}
+IsSized (InArena at size long) = Unit {0}
+IsSized (Outside key size) = (16 ≤ size) × (size ≤ 65536)
+IsSized Missing = Unit {0}

@@ -1,0 +1,93 @@
+ghost use Rattle.std.specs.Prelude.{◌≡◌, ◌+◌, ◌≤◌, length};
+ghost use Rattle.sa_arena.specs.Extents.{cursor_of};
+ghost use Rattle.sa_alloc.specs.Layouts.{brought};
+ghost use Rattle.sa_alloc.specs.Steps.{Spelled, Stands, Releases, Takes, Steps, long_bytes, long_keys, form_bytes, form_keys};
+
+use sa_arena::Arena;
+use sa_entry::{Entry, Form};
+use sa_outside::Outside;
+use sa_text::Value;
+
+/// The most bytes of a text that stands inside its slot.
+const MOST_INLINE: usize = 15;
+
+/// The greatest capacity that one byte holds.
+const MOST_SHORT: u64 = 255;
+
+/// Puts a value in the place of what an entry of this form holds, and answers the entry's new slot.
+/// It takes no memory, since a plan took it.
+pub fn step(arena: &mut Arena, outside: &mut Outside, old: Form, value: Value) -> Entry
+    requires stands { Stands arena.old.extents outside.old.texts old }
+    requires bytes { cursor_of arena.old.extents + form_bytes old (brought value) ≤ arena.old.size }
+    requires keys { form_keys arena.old.extents old (brought value) ≤ outside.old.spare }
+    ensures steps { Steps arena.old.extents outside.old.texts old (brought value) arena.new.extents outside.new.texts result }
+    ensures spelled { Spelled value }
+    ensures size { arena.new.size ≡ arena.old.size }
+    ensures spare { outside.old.spare ≤ outside.new.spare + form_keys arena.old.extents old (brought value) }
+{
+    match value {
+        Value::Missing => {
+            release(arena, outside, old);
+            Entry::missing()
+        }
+        Value::Of(text) => {
+            let bytes = text.into_bytes();
+            if bytes.len() <= MOST_INLINE {
+                release(arena, outside, old);
+                Entry::inline(bytes.as_slice())
+            } else {
+                take_in(arena, outside, old, bytes)
+            }
+        }
+    }
+}
+
+/// Gives up what an entry of this form holds: its extent dies, or its key is freed.
+fn release(arena: &mut Arena, outside: &mut Outside, old: Form)
+    requires { Stands arena.old.extents outside.old.texts old }
+    ensures releases { Releases arena.old.extents outside.old.texts old arena.new.extents outside.new.texts }
+    ensures size { arena.new.size ≡ arena.old.size }
+    ensures spare { outside.old.spare ≤ outside.new.spare }
+{
+    match old {
+        Form::Arena { at, .. } => arena.kill(at),
+        Form::Outside { key, .. } => {
+            outside.free(key);
+        }
+        Form::Fresh => (),
+        Form::Inline { .. } => (),
+        Form::Missing => (),
+    }
+}
+
+/// Takes in a text that does not fit into a slot: into a new extent for a fresh entry, into the
+/// entry's own extent where it fits there, else outside.
+fn take_in(arena: &mut Arena, outside: &mut Outside, old: Form, bytes: Vec<u8>) -> Entry
+    requires stands { Stands arena.old.extents outside.old.texts old }
+    requires size { (16 ≤ length bytes.items) × (length bytes.items ≤ 65536) }
+    requires bytes { cursor_of arena.old.extents + long_bytes old (length bytes.items) ≤ arena.old.size }
+    requires keys { long_keys arena.old.extents old (length bytes.items) ≤ outside.old.spare }
+    ensures takes { Takes arena.old.extents outside.old.texts old bytes.items arena.new.extents outside.new.texts result }
+    ensures size { arena.new.size ≡ arena.old.size }
+    ensures spare { outside.old.spare ≤ outside.new.spare + long_keys arena.old.extents old (length bytes.items) }
+{
+    let size = bytes.len() as u64;
+    match old {
+        Form::Fresh => Entry::in_arena(arena.append(bytes.as_slice()), size, size > MOST_SHORT),
+        Form::Inline { .. } => Entry::outside(outside.put(bytes), size),
+        Form::Missing => Entry::outside(outside.put(bytes), size),
+        Form::Arena { at, long, .. } => {
+            if size <= arena.capacity_at(at) {
+                arena.reuse(at, bytes.as_slice());
+                Entry::in_arena(at, size, long)
+            } else {
+                arena.kill(at);
+                Entry::outside(outside.put(bytes), size)
+            }
+        }
+        Form::Outside { key, .. } => {
+            outside.swap(key, bytes);
+            Entry::outside(key, size)
+        }
+    }
+}

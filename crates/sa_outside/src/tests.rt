@@ -1,0 +1,48 @@
+use crate::Outside;
+use std::test::Fail;
+
+#[test]
+fn texts_stand_under_their_keys(rt: HostRuntime) -> Result<(), Fail> {
+    let alloc = rt.alloc();
+    let mut texts = Outside::new(alloc);
+    assert_eq!(rt; texts.count(), 0);
+    assert_eq!(rt; texts.get(0), None);
+    texts.reserve(3)?;
+    let first = texts.put(b"first".to_vec(alloc)?);
+    let second = texts.put(b"second".to_vec(alloc)?);
+    let third = texts.put(b"third".to_vec(alloc)?);
+    assert_eq!(rt; texts.count(), 3);
+    for (key, text) in [(first, "first"), (second, "second"), (third, "third")] {
+        assert_eq!(rt; texts.get(key), Some(text.as_bytes()));
+    }
+    for unused in 0..100 {
+        let is_used = unused == first || unused == second || unused == third;
+        assert_eq!(rt; texts.get(unused).is_some(), is_used, "of {unused}");
+    }
+    Ok(())
+}
+
+#[test]
+fn texts_are_swapped_and_freed(rt: HostRuntime) -> Result<(), Fail> {
+    let alloc = rt.alloc();
+    let mut texts = Outside::new(alloc);
+    texts.reserve(2)?;
+    let kept = texts.put(b"kept".to_vec(alloc)?);
+    let key = texts.put(b"old".to_vec(alloc)?);
+    assert_eq!(rt;
+        texts.swap(key, b"new".to_vec(alloc)?).as_slice(),
+        b"old".as_slice()
+    );
+    assert_eq!(rt; texts.get(key), Some(b"new".as_slice()));
+    assert_eq!(rt; texts.count(), 2);
+    assert_eq!(rt; texts.free(key).as_slice(), b"new".as_slice());
+    assert_eq!(rt; texts.get(key), None);
+    assert_eq!(rt; texts.count(), 1);
+    texts.reserve(1)?;
+    let again = texts.put(b"again".to_vec(alloc)?);
+    assert_ne!(rt; again, kept);
+    assert_eq!(rt; texts.get(again), Some(b"again".as_slice()));
+    assert_eq!(rt; texts.get(kept), Some(b"kept".as_slice()));
+    assert_eq!(rt; texts.count(), 2);
+    Ok(())
+}
