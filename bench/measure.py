@@ -1,5 +1,5 @@
 """Runs the program on loads of growing size and prints time, memory, and time per byte of script and
-report together."""
+report together; for the stretched load, per byte of text that the calls write."""
 import os
 import subprocess
 import sys
@@ -59,6 +59,29 @@ def escapes(size):
     return head + line * count + b"end\n"
 
 
+def rewrites(size):
+    """One array of 1,024 entries, and calls that rewrite its texts, of 3 to 300 bytes in turn: inside
+    their slots, in the arena and outside."""
+    head = b"descr d absent\narray a d str 1024\ntask\n"
+    lines, left, step = [], size - len(head) - 4, 7
+    while len(lines) < 1024:
+        sizes = [3 + (entry * 37 + len(lines) * step) % 298 for entry in range(1024)]
+        line = b'set a (' + b",".join(b'"' + b"x" * n + b'"' for n in sizes) + b")\n"
+        if len(line) > left:
+            break
+        left -= len(line)
+        lines.append(line)
+    return head + b"".join(lines) + b"end\n"
+
+
+def stretched(calls):
+    """One array of 8,192 entries, and calls that rewrite all of them to one text of 3 to 110 bytes."""
+    head = b"descr d absent\narray a d str 8192\ntask\n"
+    sizes = [3 + (call * 37) % 108 for call in range(calls)]
+    lines = [b'set a "' + b"x" * n + b'"\n' for n in sizes]
+    return head + b"".join(lines) + b"end\n", 8192 * sum(sizes)
+
+
 def run(program, script):
     """The best wall time of three runs, the peak memory in KiB, the status and the report's bytes."""
     best = None
@@ -79,12 +102,17 @@ def run(program, script):
 def main():
     program = sys.argv[1]
     print(f"{'load':<10}{'MiB':>6}{'status':>8}{'wall s':>9}{'ns a byte':>11}{'peak MiB':>10}{'report MiB':>12}")
-    for name, make in (("small", small), ("comments", comments), ("wide", wide), ("escapes", escapes)):
+    for name, make in (("small", small), ("comments", comments), ("wide", wide), ("escapes", escapes), ("rewrites", rewrites)):
         for mib in (1, 2, 4):
             script = make(mib * MIB)
             wall, peak, status, out = run(program, script)
             each = wall / (len(script) + out) * 1e9
             print(f"{name:<10}{len(script) / MIB:>6.2f}{status:>8}{wall:>9.3f}{each:>11.1f}{peak / 1024:>10.1f}{out / MIB:>12.2f}")
+    print(f"{'stretched':<10}{'calls':>6}{'status':>8}{'wall s':>9}{'ns a byte':>11}{'peak MiB':>10}{'written MiB':>12}")
+    for calls in (256, 512, 1024):
+        script, written = stretched(calls)
+        wall, peak, status, _ = run(program, script)
+        print(f"{'':<10}{calls:>6}{status:>8}{wall:>9.3f}{wall / written * 1e9:>11.1f}{peak / 1024:>10.1f}{written / MIB:>12.2f}")
 
 
 if __name__ == "__main__":

@@ -1,7 +1,7 @@
 -- Laws of layouts: a put keeps one sound, and changes the value of its entry alone.
-use Rattle.std.proofs.Common.{◌≡◌, ◌≤◌, ◌<◌, ◌≢◌, ◌+◌, nat_lt, ℕ, zero, suc, Bool, true, false, cond, List, [], ◌∷◌, ◌++◌, length, map, sum, replicate, count_by, Some, None, unwrap_or, refl, sym, ap, ◌∙◌, inl, inr, arith, get_or, set, length-set, get_or-set_other}
+use Rattle.std.proofs.Common.{◌≡◌, ◌≤◌, ◌<◌, ◌≢◌, ◌+◌, nat_lt, ℕ, zero, suc, Bool, true, false, cond, List, [], ◌∷◌, ◌++◌, length, map, sum, replicate, count_by, Some, None, unwrap_or, refl, sym, ap, ◌∙◌, inl, inr, arith, get_or, set, length-set, length-append, subst, get_or-set_other}
 use Rattle.std.proofs.lemmas.Grind.{common_steps}
-use Rattle.std.proofs.lemmas.Bool.{cases_Bool, eq-eqb}
+use Rattle.std.proofs.lemmas.Bool.{cases_Bool, cases_lt, eq-eqb, leb-true}
 use Rattle.std.proofs.lemmas.Bool.Decides.{eqb_tells}
 use Rattle.std.proofs.lemmas.List.Sums.{sum_by-cons, sum_by-set, get_or-le-sum_by}
 use Rattle.std.proofs.Math.Dec.{eqb}
@@ -9,8 +9,8 @@ use Rattle.sa_text.specs.declared.value.Value.{Value}
 use Rattle.sa_text.specs.declared.value.Value.TheVariants as value
 use Rattle.sa_text.specs.Texts.{text_size}
 use Rattle.sa_arena.specs.Extents.{Extent, extent_at, is_live, with_text, trimmed, has_text}
-use Rattle.sa_arena.proofs.ExtentLemmas.{live-below, trimmed-live, trimmed-extent_at, extent_at-end, extent_at-append, extent_at-with_text, extent_at-with_text_other}
-use Rattle.sa_alloc.specs.Layouts.{Layout, State, Fresh, Inline, In, Out, Miss, Brought, Nothing, Short, Long, brought, opening_layout, extents_after, state_after, state_at, put, IsSound, is_in, one_if, new_extent, fits_in, values_of, value_in}
+use Rattle.sa_arena.proofs.ExtentLemmas.{live-below, trimmed-live, trimmed-extent_at, trimmed-twice, extent_at-end, extent_at-append, extent_at-with_text, extent_at-with_text_other}
+use Rattle.sa_alloc.specs.Layouts.{Layout, State, Fresh, Inline, In, Out, Miss, Brought, Nothing, Short, Long, brought, opening_layout, extents_after, state_after, state_at, put, IsSound, is_in, one_if, new_extent, fits_in, values_of, value_in, extent_text}
 
 -- counts of members of a list
 
@@ -90,6 +90,49 @@ live-with_some es j t k live =
       | inr w ↦ ap has_text (extent_at-with_text_other es j k (Some t) (λ e. w.1 (sym e)))
     ]
 
+-- what holds of each live extent
+
+abbrev pub AllLive : (Extent → Type 0) → List Extent → Type 0
+AllLive P es = (k : ℕ) → is_live es k ≡ true → P (extent_at es k)
+
+pub all_live-push : (P : Extent → Type 0) → (es : List Extent) (e : Extent) → P e → AllLive P es → AllLive P (es ++ e ∷ [])
+all_live-push P es e new held k live =
+    elim (cases_lt k (length es)) [
+      | inl below ↦
+          let same = extent_at-append es (e ∷ []) k below in
+          subst P (sym same) (held k (sym (ap has_text same) ∙ live))
+      | inr above ↦
+          let below = live-below (es ++ e ∷ []) k live in
+          let len = length-append es (e ∷ []) in
+          let last : k ≡ length es = omega arith in
+          subst P (sym (ap (extent_at (es ++ e ∷ [])) last ∙ extent_at-end es e)) new
+    ]
+
+pub all_live-with_text : (P : Extent → Type 0) → (es : List Extent) (k : ℕ) (t : List ℕ) → k < length es → P (record { capacity = (extent_at es k).capacity; text = Some t }) → AllLive P es → AllLive P (with_text es k (Some t))
+all_live-with_text P es k t below new held n live =
+    elim (eqb_tells n k) [
+      | inl w ↦ subst P (sym (ap (extent_at (with_text es k (Some t))) w.1 ∙ extent_at-with_text es k (Some t) below)) new
+      | inr w ↦
+          let same = extent_at-with_text_other es k n (Some t) w.1 in
+          subst P (sym same) (held n (sym (ap has_text same) ∙ live))
+    ]
+
+pub all_live-with_none : (P : Extent → Type 0) → (es : List Extent) (k : ℕ) → k < length es → AllLive P es → AllLive P (with_text es k None)
+all_live-with_none P es k below held n live =
+    elim (eqb_tells n k) [
+      | inl w ↦
+          let dead : is_live (with_text es k None) n ≡ false = ap (is_live (with_text es k None)) w.1 ∙ ap has_text (extent_at-with_text es k None below) in
+          cc
+      | inr w ↦
+          let same = extent_at-with_text_other es k n None w.1 in
+          subst P (sym same) (held n (sym (ap has_text same) ∙ live))
+    ]
+
+pub all_live-trimmed : (P : Extent → Type 0) → (es : List Extent) → AllLive P es → AllLive P (trimmed es)
+all_live-trimmed P es held n live =
+    let alive : is_live es n ≡ true = sym (trimmed-live es n) ∙ live in
+    subst P (sym (trimmed-extent_at es n alive)) (held n alive)
+
 -- the extent that a state names is live
 abbrev pub Named : List Extent → State → Type 0
 Named es Fresh = Unit {0}
@@ -137,6 +180,28 @@ balance es (In j) (Long t) k n =
       | inr f_is ↦ let gone = live-with_none es j k n in rw f_is (omega arith)
     ]
 
+-- a live text fits into its extent
+
+abbrev pub HasRoom : Extent → Type 0
+HasRoom e = text_size (extent_text e) ≤ e.capacity
+
+pub room-after : (es : List Extent) (s : State) (b : Brought) → Named es s → AllLive HasRoom es → AllLive HasRoom (extents_after es s b)
+room-after es Fresh Nothing n room = room
+room-after es Fresh (Short t) n room = room
+room-after es Fresh (Long t) n room = all_live-push HasRoom es (new_extent t) (omega arith) room
+room-after es (Inline u) b n room = room
+room-after es (Out u) b n room = room
+room-after es Miss b n room = room
+room-after es (In j) Nothing n room = all_live-with_none HasRoom es j (live-below es j n) room
+room-after es (In j) (Short t) n room = all_live-with_none HasRoom es j (live-below es j n) room
+room-after es (In j) (Long t) n room =
+    elim (cases_Bool (fits_in es j t)) [
+      | inl t_is ↦
+          let fits : text_size t ≤ (extent_at es j).capacity = leb-true (text_size t) (extent_at es j).capacity t_is in
+          rw t_is (all_live-with_text HasRoom es j t (live-below es j n) fits room)
+      | inr f_is ↦ rw f_is (all_live-with_none HasRoom es j (live-below es j n) room)
+    ]
+
 pub put-sound : (l : Layout) (i : ℕ) (v : Value) → IsSound l → i < length l.states → IsSound (put l i v)
 put-sound l i v sound h = record {
   named = λ k.
@@ -147,6 +212,11 @@ put-sound l i v sound h = record {
       let trim : one_if (is_live (trimmed (extents_after l.extents s b)) k) ≡ one_if (is_live (extents_after l.extents s b) k) = ap one_if (trimmed-live (extents_after l.extents s b) k) in
       let before = sound.named k in
       omega arith;
+  room =
+      let b = brought v in
+      let s = state_at l.states i in
+      all_live-trimmed HasRoom (extents_after l.extents s b) (room-after l.extents s b (named_at l i sound h) sound.room);
+  last = trimmed-twice (extents_after l.extents (state_at l.states i) (brought v));
 }
 
 pub count-replicate : (k n : ℕ) → count_by (is_in k) (replicate n Fresh) ≡ 0
@@ -154,7 +224,11 @@ count-replicate k zero = refl
 count-replicate k (suc n) = sum_by-cons (λ x. cond (is_in k x) 1 0) Fresh (replicate n Fresh) ∙ ap (λ m. 0 + m) (count-replicate k n)
 
 pub opening-sound : (lengths : List ℕ) → IsSound (opening_layout lengths)
-opening-sound lengths = record { named = λ k. count-replicate k (sum lengths) }
+opening-sound lengths = record {
+  named = λ k. count-replicate k (sum lengths);
+  room = λ k live. cc;
+  last = refl;
+}
 
 -- the value of another entry stays
 

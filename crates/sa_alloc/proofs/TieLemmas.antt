@@ -1,7 +1,7 @@
 -- A put over the parts of a store is the put of its layout, and keeps what every store keeps.
-use Rattle.std.proofs.Common.{◌≡◌, ◌≤◌, ◌<◌, ◌≢◌, ◌+◌, nat_le, ℕ, zero, suc, Bool, true, false, List, [], ◌∷◌, ◌++◌, length, map, Option, Some, None, is_some, option_map, unwrap_or, encode_utf8_all, refl, sym, ap, ◌∙◌, subst, inl, inr, arith, set, length-set, length-append, get_or-set_other, get_or-set_same}
+use Rattle.std.proofs.Common.{◌≡◌, ◌≤◌, ◌<◌, ◌≢◌, ◌+◌, nat_le, ℕ, zero, suc, Bool, true, false, List, [], ◌∷◌, ◌++◌, length, map, Option, Some, None, is_some, option_map, unwrap_or, encode_utf8_all, refl, sym, ap, ◌∙◌, subst, inl, inr, arith, set, length-set, get_or-set_other, get_or-set_same}
 use Rattle.std.specs.Str.{chars}
-use Rattle.std.proofs.lemmas.Bool.{cases_Bool, cases_lt, eq-eqb}
+use Rattle.std.proofs.lemmas.Bool.{cases_Bool, eq-eqb}
 use Rattle.std.proofs.lemmas.Bool.Decides.{eqb_tells}
 use Rattle.std.proofs.lemmas.List.{map-set, length-map}
 use Rattle.std.proofs.Math.ListN.{get_or-map}
@@ -9,13 +9,13 @@ use Rattle.sa_text.specs.declared.value.Value.{Value}
 use Rattle.sa_text.specs.Texts.{text_size}
 use Rattle.sa_entry.specs.Slots.{Slot, Fresh, Inline, InArena, Outside, Missing}
 use Rattle.sa_arena.specs.Extents.{Extent, extent_at, is_live, number_at, with_text, trimmed, front_of, has_text, extent_for}
-use Rattle.sa_arena.proofs.ExtentLemmas.{live-below, trimmed-live, trimmed-extent_at, number_at-append, number_at-with_text, number_at-trimmed, extent_at-end, extent_at-append, extent_at-with_text, extent_at-with_text_other}
+use Rattle.sa_arena.proofs.ExtentLemmas.{live-below, trimmed-extent_at, number_at-append, number_at-with_text, number_at-trimmed, extent_at-append, extent_at-with_text_other}
 use Rattle.sa_outside.specs.Keyed.{bytes_at, is_used, used_count, Changes}
 use Rattle.sa_alloc.specs.Layouts as layouts
 use Rattle.sa_alloc.specs.Layouts.{Layout, State, Brought, Nothing, Short, Long, brought, extents_after, state_after, state_at, put, IsSound, is_in, one_if, new_extent, fits_in, extent_text}
 use Rattle.sa_alloc.specs.Ties.{state_of, decoded, layout_from, IsOuter, HoldsText, NamesExtent, NamesBytes, Fits, slot_at, is_at_key, is_outside, IsTied, text_under}
 use Rattle.sa_alloc.specs.Steps.{IsSpelled, killed}
-use Rattle.sa_alloc.proofs.LayoutLemmas.{counts_two, count-set, map-set_but, put-sound}
+use Rattle.sa_alloc.proofs.LayoutLemmas.{counts_two, count-set, map-set_but, AllLive, all_live-push, all_live-with_text, all_live-with_none, all_live-trimmed, put-sound}
 
 -- extents with code points in place of bytes
 
@@ -75,7 +75,7 @@ pub record NearExtents (es es' : List Extent) (k : ℕ) : Type 0 where
   pub extents : (n : ℕ) → is_live es n ≡ true → n ≢ k → extent_at es' n ≡ extent_at es n
 
 abbrev pub AllHeld : List Extent → Type 0
-AllHeld es = (k : ℕ) → is_live es k ≡ true → HoldsText (extent_at es k)
+AllHeld es = AllLive HoldsText es
 
 abbrev pub AllKept : List (Option (List ℕ)) → Type 0
 AllKept ks = (key : ℕ) → is_used ks key ≡ true → IsOuter (text_under ks key)
@@ -108,42 +108,13 @@ near-killed es k = record {
 }
 
 pub held-push : (es : List Extent) (bytes : List ℕ) → IsOuter bytes → AllHeld es → AllHeld (es ++ extent_for bytes ∷ [])
-held-push es bytes outer held k live =
-    let e = extent_for bytes in
-    elim (cases_lt k (length es)) [
-      | inl below ↦
-          let same = extent_at-append es (e ∷ []) k below in
-          subst HoldsText (sym same) (held k (sym (ap has_text same) ∙ live))
-      | inr above ↦
-          let below = live-below (es ++ e ∷ []) k live in
-          let len = length-append es (e ∷ []) in
-          let last : k ≡ length es = omega arith in
-          let it : HoldsText e = record { outer = outer; room = omega arith } in
-          subst HoldsText (sym (ap (extent_at (es ++ e ∷ [])) last ∙ extent_at-end es e)) it
-    ]
+held-push es bytes outer held = all_live-push HoldsText es (extent_for bytes) (record { outer = outer; room = omega arith }) held
 
 pub held-with_text : (es : List Extent) (k : ℕ) (bytes : List ℕ) → IsOuter bytes → k < length es → length bytes ≤ (extent_at es k).capacity → AllHeld es → AllHeld (with_text es k (Some bytes))
-held-with_text es k bytes outer below fits held n live =
-    elim (eqb_tells n k) [
-      | inl w ↦
-          let it : HoldsText (record { capacity = (extent_at es k).capacity; text = Some bytes }) = record { outer = outer; room = fits } in
-          subst HoldsText (sym (ap (extent_at (with_text es k (Some bytes))) w.1 ∙ extent_at-with_text es k (Some bytes) below)) it
-      | inr w ↦
-          let same = extent_at-with_text_other es k n (Some bytes) w.1 in
-          subst HoldsText (sym same) (held n (sym (ap has_text same) ∙ live))
-    ]
+held-with_text es k bytes outer below fits held = all_live-with_text HoldsText es k bytes below (record { outer = outer; room = fits }) held
 
 pub held-killed : (es : List Extent) (k : ℕ) → k < length es → AllHeld es → AllHeld (trimmed (with_text es k None))
-held-killed es k below held n live =
-    let alive : is_live (with_text es k None) n ≡ true = sym (trimmed-live (with_text es k None) n) ∙ live in
-    elim (eqb_tells n k) [
-      | inl w ↦
-          let dead : is_live (with_text es k None) n ≡ false = ap (is_live (with_text es k None)) w.1 ∙ ap has_text (extent_at-with_text es k None below) in
-          cc
-      | inr w ↦
-          let same = extent_at-with_text_other es k n None w.1 in
-          subst HoldsText (sym (trimmed-extent_at (with_text es k None) n alive ∙ same)) (held n (sym (ap has_text same) ∙ alive))
-    ]
+held-killed es k below held = all_live-trimmed HoldsText (with_text es k None) (all_live-with_none HoldsText es k below held)
 
 pub used-below : (ks : List (Option (List ℕ))) (key : ℕ) → is_used ks key ≡ true → key < length ks
 used-below [] key h = cc

@@ -1,5 +1,5 @@
 -- The layout of one descriptor: where the text of each entry lies. Source: NEP 55; the table of transitions is this project's own.
-use Rattle.std.specs.Prelude.{◌≡◌, ℕ, ◌==◌, nat_lt, nat_le, Bool, true, false, if◌then◌else◌, List, [], ◌∷◌, ◌++◌, length, map, take, sum, count_by, replicate, slice_index_or, slice_set, Some, None, option_map, unwrap_or, encode_utf8_all}
+use Rattle.std.specs.Prelude.{◌≡◌, ◌≤◌, ℕ, ◌==◌, nat_lt, nat_le, Bool, true, false, if◌then◌else◌, List, [], ◌∷◌, ◌++◌, length, map, take, sum, count_by, replicate, slice_index_or, slice_set, Some, None, option_map, unwrap_or, encode_utf8_all}
 use Rattle.sa_base.specs.declared.stats.Stats.{Stats}
 use Rattle.sa_text.specs.Texts.{text_size}
 use Rattle.sa_text.specs.declared.value.Value.{Value}
@@ -128,9 +128,11 @@ is_out Miss = false
 abbrev pub one_if : Bool → ℕ
 one_if b = if b then 1 else 0
 
--- each live extent is named by exactly one entry, and no other number is named
+-- Each live extent is named by exactly one entry, and no other number is named; a live text fits into its extent; and the last extent is live.
 pub record IsSound (l : Layout) : Type 0 where
   pub named : (k : ℕ) → count_by (is_in k) l.states ≡ one_if (is_live l.extents k)
+  pub room : (k : ℕ) → is_live l.extents k ≡ true → text_size (text_in l.extents k) ≤ (extent_at l.extents k).capacity
+  pub last : trimmed l.extents ≡ l.extents
 
 -- the statistics of a layout: bytes with prefixes, and how many texts are outside
 abbrev pub stats_of : Layout → Stats

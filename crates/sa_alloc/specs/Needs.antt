@@ -1,4 +1,4 @@
--- What puts need of a store: bytes of the arena and keys.
+-- What puts need of a store: bytes of the arena and keys. Source: this project.
 use Rattle.std.specs.Prelude.{ℕ, ◌+◌, List, [], ◌∷◌, if◌then◌else◌}
 use Rattle.sa_text.specs.declared.value.Value.{Value}
 use Rattle.sa_arena.specs.Extents.{Extent, extent_size}

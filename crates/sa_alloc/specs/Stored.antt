@@ -1,4 +1,4 @@
--- What contracts see of a store.
+-- What contracts see of a store. Source: this project.
 use Rattle.std.specs.Prelude.{ℕ}
 use Rattle.sa_alloc.specs.Layouts.{Layout}
 

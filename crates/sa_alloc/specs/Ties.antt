@@ -1,4 +1,4 @@
--- How the parts of a store make its layout, and what every store keeps.
+-- How the parts of a store make its layout, and what every store keeps. Source: this project.
 use Rattle.std.specs.Prelude.{◌≡◌, ℕ, ◌<◌, ◌≤◌, ◌==◌, nat_lt, Bool, true, false, List, [], length, map, sum, count_by, slice_index_or, Option, option_map, is_some, unwrap_or, IsUtf8}
 use Rattle.std.specs.Str.{chars}
 use Rattle.sa_entry.specs.Slots.{Slot, Fresh, Inline, InArena, Outside, Missing}

@@ -7,7 +7,8 @@
 //! the keys that they need. The write then cannot fail.
 //!
 //! The entries of all arrays stand in one vector, array by array, and the store keeps the number of
-//! each array's first entry. No call walks over the extents.
+//! each array's first entry. No call walks over the extents: one is found by halves, and a dead one at
+//! the end is passed once, when it goes.
 #![tactic(auto)]
 
 mod laws;
@@ -21,3 +22,6 @@ pub use laws::{puts_keep_sound, puts_set_one_value};
 pub use plan::Plan;
 pub use seen::Seen;
 pub use store::Store;
+
+#[cfg(test)]
+mod tests;

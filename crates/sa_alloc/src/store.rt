@@ -197,9 +197,10 @@ impl Store {
         without_key(entry).bytes()
     }
 
-    /// The bytes of the arena, lent from its buffer.
+    /// The bytes of the arena, as many as the cursor says, lent from its buffer.
     pub fn image_arena(&self) -> &[u8]
-        ensures { result.now ≡ arena_image self.now.layout }
+        ensures bytes { result.now ≡ arena_image self.now.layout }
+        ensures long { length result.now ≡ (stats_of self.now.layout).cursor }
     {
         self.arena.image()
     }

@@ -17,3 +17,7 @@ CursorIsLiveAndDead = (es : List Extent) → cursor_of es ≡ live_bytes es + de
 -- an offset tells its extent
 abbrev pub OffsetsTellExtents : Type 0
 OffsetsTellExtents = (es : List Extent) (k : ℕ) → k < length es → number_at es (offset_of es k) ≡ k
+
+-- an offset that tells an extent is that of its text
+abbrev pub NumbersTellOffsets : Type 0
+NumbersTellOffsets = (es : List Extent) (at : ℕ) → number_at es at < length es → offset_of es (number_at es at) ≡ at

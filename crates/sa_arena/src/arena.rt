@@ -12,8 +12,8 @@ use std::marker::Model;
 #[derive(Clone, Copy)]
 struct Member {
     at: u64,
-    capacity: u64,
-    size: u64,
+    capacity: u32,
+    size: u32,
     live: bool,
 }
 
@@ -90,8 +90,8 @@ impl Arena {
         write_extent(&mut self.bytes, start as usize, text);
         self.table.push_reserved(Member {
             at,
-            capacity: size,
-            size,
+            capacity: size as u32,
+            size: size as u32,
             live: true,
         });
         self.live += at + size - start;
@@ -112,7 +112,7 @@ impl Arena {
         self.table[number] = Member {
             at,
             capacity: room,
-            size: text.len() as u64,
+            size: text.len() as u32,
             live: true,
         };
     }
@@ -131,7 +131,7 @@ impl Arena {
         let cursor = self.start(count);
         let start = self.start(number);
         let capacity = self.capacity(number);
-        let size = at - start + capacity;
+        let size = at - start + capacity as u64;
         write_zeros(&mut self.bytes, start as usize, size as usize);
         self.table[number] = Member {
             at,
@@ -149,7 +149,7 @@ impl Arena {
         requires { is_live self.now.extents (number_at self.now.extents at) ≡ true }
         ensures { result ≡ (extent_at self.now.extents (number_at self.now.extents at)).capacity }
     {
-        self.capacity(self.number_of(at))
+        self.capacity(self.number_of(at)) as u64
     }
 
     /// The text of the live extent at an offset, lent.
@@ -157,7 +157,7 @@ impl Arena {
         requires { is_live self.now.extents (number_at self.now.extents at) ≡ true }
         ensures { (extent_at self.now.extents (number_at self.now.extents at)).text ≡ Some result.now }
     {
-        let size = self.table[self.number_of(at)].size;
+        let size = self.table[self.number_of(at)].size as u64;
         &self.bytes[at as usize..(at + size) as usize]
     }
 
@@ -191,9 +191,10 @@ impl Arena {
         self.bytes.len() as u64
     }
 
-    /// The bytes of the extents, lent from the buffer.
+    /// The bytes of the extents, as many as the cursor says, lent from the buffer.
     pub fn image(&self) -> &[u8]
-        ensures { result.now ≡ image_of self.now.extents }
+        ensures bytes { result.now ≡ image_of self.now.extents }
+        ensures long { length result.now ≡ cursor_of self.now.extents }
     {
         &self.bytes[..self.cursor as usize]
     }
@@ -217,7 +218,7 @@ impl Arena {
     }
 
     /// The capacity of the extent of a number.
-    fn capacity(&self, number: usize) -> u64
+    fn capacity(&self, number: usize) -> u32
         requires { number < length self.now.extents }
         ensures { result ≡ (extent_at self.now.extents number).capacity }
     {
@@ -232,7 +233,7 @@ impl Arena {
         if number == self.table.len() {
             return self.cursor;
         }
-        self.table[number].at - prefix_len(self.capacity(number))
+        self.table[number].at - prefix_len(self.capacity(number) as u64)
     }
 
     /// How many extents are left once the one of a number is dead and the dead ones at the end are

@@ -1,4 +1,4 @@
-ghost use Rattle.sa_arena.specs.Laws.{ShareNoByte, LieBelowCursor, CursorIsLiveAndDead, OffsetsTellExtents};
+ghost use Rattle.sa_arena.specs.Laws.{ShareNoByte, LieBelowCursor, CursorIsLiveAndDead, OffsetsTellExtents, NumbersTellOffsets};
 
 /// No two extents of an arena share a byte, prefixes included, and each lies below the cursor: its
 /// clauses are the laws.
@@ -12,7 +12,9 @@ pub fn cursor_is_live_and_dead()
     ensures { CursorIsLiveAndDead }
 {}
 
-/// The offset of an extent's text tells the extent: its clause is the law.
+/// The offset of an extent's text tells the extent, and no other offset does: its clauses are the
+/// laws.
 pub fn offsets_tell_extents()
-    ensures { OffsetsTellExtents }
+    ensures numbers { OffsetsTellExtents }
+    ensures offsets { NumbersTellOffsets }
 {}

@@ -142,16 +142,17 @@ impl Entry {
         &self.bytes[..size as usize]
     }
 
-    /// The sixteen bytes of the slot.
+    /// The sixteen bytes of the slot, as every entry spells its own.
     pub fn bytes(&self) -> [u8; 16]
-        ensures { result ≡ spelling self.now }
+        ensures spelling { result ≡ spelling self.now }
+        ensures slot { IsSlot self.now }
     {
         self.bytes
     }
 
     /// The slot that the bytes spell; none exactly where they are no spelling.
     pub fn read(bytes: [u8; 16]) -> Option<Entry>
-        ensures spelled { IfSome result (λ slot. spelling slot ≡ bytes) }
+        ensures spelled { IfSome result (λ slot. IsSlot slot × (spelling slot ≡ bytes)) }
         ensures again { (slot : Slot) → IsSlot slot → spelling slot ≡ bytes → result ≡ Some slot }
     {
         // The slot is spelled anew, so no rule of the spelling stands here a second time.

@@ -1,4 +1,4 @@
--- Texts outside the arena: bytes under keys.
+-- Texts outside the arena: bytes under keys. Source: this project.
 use Rattle.std.specs.Prelude.{◌≡◌, ◌≢◌, ℕ, List, Option, None, is_some, count_by, Bool, slice_index_or}
 
 -- the bytes or nothing at each key from 0 on, and how many more texts can be put with no memory

@@ -1,12 +1,12 @@
 -- The parts of a report, one step at a time.
-use Rattle.std.proofs.Common.{◌≡◌, ◌≢◌, ℕ, zero, suc, ◌+◌, ◌<◌, ◌≤◌, Bool, true, false, cond, eqb, List, [], ◌∷◌, ◌++◌, length, map, get_or, drop, refl, sym, ap, ◌∙◌, arith, eq-eqb, add-one, drop-cons, append_assoc}
+use Rattle.std.proofs.Common.{◌≡◌, ◌≢◌, ℕ, zero, suc, ◌+◌, ◌<◌, Bool, true, false, eqb, List, [], ◌∷◌, ◌++◌, length, map, get_or, drop, refl, sym, ap, ◌∙◌, arith, eq-eqb, add-one, drop-cons, append_assoc}
 use Rattle.std.proofs.lemmas.Bool.{ne_eqb}
+use Rattle.sa_base.specs.declared.stats.Stats.{Stats}
 use Rattle.sa_plain.specs.declared.items.Items.{Items}
 use Rattle.sa_script.specs.declared.call.Call.{Call}
 use Rattle.sa_script.specs.declared.reply.Reply.{Reply}
-use Rattle.sa_script.specs.declared.reply.Reply.TheVariants.{Done}
 use Rattle.sa_report.specs.Histories.{IsHistory, calls_of, unmarked, is_among}
-use Rattle.sa_report.specs.Reports.{replies_of, numbered, call_lines, call_line, task_line, task_block, task_lines, array_line, array_lines}
+use Rattle.sa_report.specs.Reports.{replies_of, numbered, call_lines, call_line, task_line, task_block, task_lines, array_line, array_lines, stats_line, stats_lines}
 
 -- without marks the calls of a task are numbered from 0
 pub call_lines_numbered : (task k n : ℕ) (replies : List Reply) → length replies ≡ n → call_lines (is_among [] task) k n replies ≡ numbered k replies
@@ -49,6 +49,11 @@ task_lines-drop history replies tasks k d below = rw (drop-cons tasks k d, add-o
 pub array_lines-drop : (names : List (List ℕ)) (contents : List Items) (k : ℕ) (d : List ℕ) (e : Items) → k < length names → k < length contents
     → array_lines (drop k names) (drop k contents) ≡ array_line (get_or names k d) (get_or contents k e) ++ array_lines (drop (k + 1) names) (drop (k + 1) contents)
 array_lines-drop names contents k d e below within = rw (drop-cons names k d, drop-cons contents k e, add-one) refl
+
+-- one more descriptor
+pub stats_lines-drop : (names : List (List ℕ)) (stats : List Stats) (k : ℕ) (d : List ℕ) (e : Stats) → k < length names → k < length stats
+    → stats_lines (drop k names) (drop k stats) ≡ stats_line (get_or names k d) (get_or stats k e) ++ stats_lines (drop (k + 1) names) (drop (k + 1) stats)
+stats_lines-drop names stats k d e below within = rw (drop-cons names k d, drop-cons stats k e, add-one) refl
 
 -- a call of the task, and one of another
 pub replies_of-taken : (task : ℕ) (history : List (ℕ × ℕ)) (replies : List Reply) (k : ℕ) (d : ℕ × ℕ) (e : Reply) → k < length history → k < length replies → (get_or history k d).0 ≡ task

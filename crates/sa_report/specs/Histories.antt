@@ -1,5 +1,5 @@
 -- Histories of a script: which calls took effect, in which order.
-use Rattle.std.specs.Prelude.{◌≡◌, ℕ, zero, suc, ◌+◌, ◌==◌, Bool, true, false, ◌&&◌, List, [], ◌∷◌, slice_index_or, if◌then◌else◌}
+use Rattle.std.specs.Prelude.{◌≡◌, ℕ, zero, suc, ◌+◌, ◌==◌, Bool, ◌&&◌, List, [], ◌∷◌, slice_index_or, if◌then◌else◌}
 use Rattle.std.specs.List.{list_any}
 
 -- the pair of a task and a call is among these

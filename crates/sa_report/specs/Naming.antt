@@ -1,6 +1,7 @@
 -- The history and the marks that a report's bytes name, read back from them.
 use Rattle.std.specs.Prelude.{◌≡◌, ℕ, ◌+◌, ◌-◌, ◌*◌, ◌^◌, ◌<◌, ◌==◌, List, [], ◌∷◌, map, drop, slice_index_or, if◌then◌else◌}
 use Rattle.std.specs.List.{AllByRecursion}
+use Rattle.sa_base.specs.declared.stats.Stats.{Stats}
 use Rattle.sa_lines.specs.Lines.{lines_of}
 use Rattle.sa_lines.specs.Tokens.{tokens_of}
 use Rattle.sa_plain.specs.declared.items.Items.{Items}
@@ -35,6 +36,6 @@ IsShort p = (p.0 < 2 ^ 64) × (p.1 < 2 ^ 64)
 
 -- a report names its history and its marks
 abbrev pub NamesItsHistory : Type 0
-NamesItsHistory = (plan : Plan) (history marks : List (ℕ × ℕ)) (replies : List Reply) (contents : List Items)
+NamesItsHistory = (plan : Plan) (history marks : List (ℕ × ℕ)) (replies : List Reply) (contents : List Items) (stats : List Stats)
     → AllByRecursion IsShort history → AllByRecursion IsShort marks
-    → (history_named (report_of plan history marks replies contents) ≡ history) × (marks_named (report_of plan history marks replies contents) ≡ marks)
+    → (history_named (report_of plan history marks replies contents stats) ≡ history) × (marks_named (report_of plan history marks replies contents stats) ≡ marks)

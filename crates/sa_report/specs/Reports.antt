@@ -1,6 +1,7 @@
 -- The bytes of a report: this project's own format.
-use Rattle.std.specs.Prelude.{ℕ, zero, suc, ◌+◌, ◌==◌, Bool, true, false, List, [], ◌∷◌, ◌++◌, length, if◌then◌else◌, codes, decimal}
+use Rattle.std.specs.Prelude.{ℕ, zero, suc, ◌+◌, ◌==◌, Bool, List, [], ◌∷◌, ◌++◌, length, if◌then◌else◌, codes, decimal}
 use Rattle.std.specs.List.{flat_map}
+use Rattle.sa_base.specs.declared.stats.Stats.{Stats}
 use Rattle.sa_lines.specs.Lines.{line}
 use Rattle.sa_lines.specs.Quotes.{quoted}
 use Rattle.sa_text.specs.declared.value.Value.{Value}
@@ -90,13 +91,23 @@ array_lines [] contents = []
 array_lines (n ∷ ns) [] = []
 array_lines (n ∷ ns) (c ∷ cs) = array_line n c ++ array_lines ns cs
 
--- what stands behind the line of marks
-abbrev pub report_rest : Plan → List (ℕ × ℕ) → List (ℕ × ℕ) → List Reply → List Items → List ℕ
-report_rest plan history marks replies contents = task_lines history marks replies 0 plan.tasks ++ (array_lines plan.names.arrays contents ++ line (codes "end"))
+-- a descriptor's name and the statistics of its allocator
+abbrev pub stats_line : List ℕ → Stats → List ℕ
+stats_line name stats =
+    line (codes "stats " ++ (name ++ (codes " cursor " ++ (decimal stats.cursor ++ (codes " live " ++ (decimal stats.live ++ (codes " dead " ++ (decimal stats.dead ++ (codes " outside " ++ decimal stats.outside)))))))))
 
--- The report of a script with a history and marks, the replies in the order of the history, and the final contents of the arrays in order of declaration.
-abbrev pub report_of : Plan → List (ℕ × ℕ) → List (ℕ × ℕ) → List Reply → List Items → List ℕ
-report_of plan history marks replies contents = line (codes "report 1") ++ (history_line history ++ (marked_line marks ++ report_rest plan history marks replies contents))
+abbrev pub stats_lines : List (List ℕ) → List Stats → List ℕ
+stats_lines [] stats = []
+stats_lines (n ∷ ns) [] = []
+stats_lines (n ∷ ns) (s ∷ ss) = stats_line n s ++ stats_lines ns ss
+
+-- what stands behind the line of marks
+abbrev pub report_rest : Plan → List (ℕ × ℕ) → List (ℕ × ℕ) → List Reply → List Items → List Stats → List ℕ
+report_rest plan history marks replies contents stats = task_lines history marks replies 0 plan.tasks ++ (array_lines plan.names.arrays contents ++ (stats_lines plan.names.descrs stats ++ line (codes "end")))
+
+-- The report of a script with a history and marks, the replies in the order of the history, the final contents of the arrays and the statistics of the descriptors' allocators, both in order of declaration.
+abbrev pub report_of : Plan → List (ℕ × ℕ) → List (ℕ × ℕ) → List Reply → List Items → List Stats → List ℕ
+report_of plan history marks replies contents stats = line (codes "report 1") ++ (history_line history ++ (marked_line marks ++ report_rest plan history marks replies contents stats))
 
 -- the line for a faulty script
 abbrev pub fault_line : ℕ → ℕ → List ℕ

@@ -1,7 +1,8 @@
 //! Reports: what a run of a script is told to have done, as bytes.
 //!
-//! A report is made from the script, the history, the replies in the order of the history and the
-//! final contents of the arrays. Its bytes name its history: `names_its_history` carries that law.
+//! A report is made from the script, the history, the replies in the order of the history, the final
+//! contents of the arrays and the statistics of the descriptors' allocators. Its bytes name its
+//! history: `names_its_history` carries that law.
 #![tactic(auto)]
 
 mod law;
@@ -11,7 +12,7 @@ mod writing;
 
 pub use law::names_its_history;
 pub use making::{fault_line, report};
-pub use told::Told;
+pub use told::{StatsList, Told};
 
 #[cfg(test)]
 mod tests;

@@ -1,11 +1,11 @@
-ghost use Rattle.std.specs.Prelude.{◌≡◌, ◌++◌, ◌<◌, ◌^◌, [], length, map, OnOk, IfOk};
+ghost use Rattle.std.specs.Prelude.{◌≡◌, ◌++◌, ◌<◌, ◌^◌, [], length, map, decimal, OnOk, IfOk};
 ghost use Rattle.std.specs.List.{flat_map};
 ghost use Rattle.sa_report.specs.Histories.{IsHistory};
-ghost use Rattle.sa_report.specs.Reports.{report_of, fault_line, spaced_pair, numbered, replies_of, task_line, task_block, task_lines, array_line, array_lines};
+ghost use Rattle.sa_report.specs.Reports.{report_of, fault_line, spaced_pair, numbered, replies_of, task_line, task_block, task_lines, array_line, array_lines, stats_line, stats_lines};
 
 use crate::told::Told;
 use crate::writing::{push_bytes, push_call_line, push_items, push_pair};
-use sa_base::Memory;
+use sa_base::{Memory, Stats};
 use sa_lines::push_decimal;
 use sa_plain::Items;
 use sa_script::{CallList, Names, PairList, Reply, Script};
@@ -16,7 +16,8 @@ pub fn report(alloc: Global, script: &Script, from: &Told) -> Result<Vec<u8>, Me
     requires history { IsHistory (map length script.now.tasks) from.now.history [] }
     requires replies { length from.now.replies ≡ length from.now.history }
     requires arrays { length from.now.arrays ≡ length script.now.decls.arrays }
-    ensures { IfOk result (λ bytes. bytes.items ≡ report_of script.now from.now.history [] from.now.replies from.now.arrays) }
+    requires stats { length from.now.stats ≡ length script.now.decls.descrs }
+    ensures { IfOk result (λ bytes. bytes.items ≡ report_of script.now from.now.history [] from.now.replies from.now.arrays from.now.stats) }
 {
     let mut out = Vec::new(alloc);
     push_bytes(&mut out, b"report 1\nhistory")?;
@@ -24,6 +25,7 @@ pub fn report(alloc: Global, script: &Script, from: &Told) -> Result<Vec<u8>, Me
     push_bytes(&mut out, b"\nmarked\n")?;
     push_tasks(&mut out, script.tasks().as_slice(), from)?;
     push_arrays(&mut out, script.names(), from.arrays.as_slice())?;
+    push_all_stats(&mut out, script.names(), from.stats.as_slice())?;
     push_bytes(&mut out, b"end\n")?;
     Ok(out)
 }
@@ -115,6 +117,42 @@ fn push_array(out: &mut Vec<u8>, name: &str, items: &Items) -> Result<(), Memory
     push_bytes(out, b" ")?;
     push_items(out, items)?;
     push_bytes(out, b"\n")
+}
+
+/// Writes the statistics of the descriptors' allocators, each behind its descriptor's name.
+fn push_all_stats(out: &mut Vec<u8>, names: &Names, stats: &[Stats]) -> Result<(), Memory>
+    requires named { length stats.now ≡ length names.now.descrs }
+    requires few { length stats.now < 2 ^ 8 }
+    ensures { OnOk result (out.new.items ≡ out.old.items ++ stats_lines names.now.descrs stats.now) }
+{
+    for k in 0..stats.len() {
+        let Some(name) = names.descr(k as u8) else {
+            unreachable!()
+        };
+        push_stats(out, name, &stats[k])?;
+    }
+    Ok(())
+}
+
+/// Writes the line of a descriptor's statistics.
+fn push_stats(out: &mut Vec<u8>, name: &str, stats: &Stats) -> Result<(), Memory>
+    ensures { OnOk result (out.new.items ≡ out.old.items ++ stats_line name.now stats.now) }
+{
+    push_bytes(out, b"stats ")?;
+    push_bytes(out, name.as_bytes())?;
+    push_figure(out, b" cursor ", stats.cursor)?;
+    push_figure(out, b" live ", stats.live)?;
+    push_figure(out, b" dead ", stats.dead)?;
+    push_figure(out, b" outside ", stats.outside)?;
+    push_bytes(out, b"\n")
+}
+
+/// Writes a word, with the spaces around it, and a number.
+fn push_figure(out: &mut Vec<u8>, word: &[u8], number: u64) -> Result<(), Memory>
+    ensures { OnOk result (out.new.items ≡ out.old.items ++ (word.now ++ decimal number)) }
+{
+    push_bytes(out, word)?;
+    push_decimal(out, number)
 }
 
 /// The line for a faulty script: the fault's number and its line.

@@ -1,5 +1,5 @@
 -- The two shapes of a call, and the lengths that fit it.
-use Rattle.std.proofs.Common.{◌≡◌, ℕ, zero, suc, ◌+◌, ◌-◌, ◌<◌, ◌≤◌, ◌^◌, Bool, true, false, List, [], ◌∷◌, length, get_or, take, Option, Some, None, slice_get, refl, sym, ap, ◌∙◌, subst, arith, inl, inr, ◌⊎◌}
+use Rattle.std.proofs.Common.{◌≡◌, ℕ, zero, suc, ◌+◌, ◌-◌, ◌<◌, ◌≤◌, true, false, List, [], ◌∷◌, length, get_or, Option, Some, None, slice_get, refl, sym, ap, ◌∙◌, subst, arith}
 use Rattle.std.proofs.lemmas.List.Sums.{sum_by_more_le}
 use Rattle.std.proofs.lemmas.Bool.{eq-eqb}
 use Rattle.std.specs.List.{AllByRecursion}
@@ -19,12 +19,15 @@ use Rattle.sa_script.specs.declared.decls.Kind.TheVariants as kind
 use Rattle.sa_script.specs.declared.reply.Outcome.{Outcome}
 use Rattle.sa_script.specs.Calls.{lengths_fit}
 use Rattle.sa_script.specs.Contexts.{length_at, array_at}
-use Rattle.sa_script.specs.Decls.{Declared, IsDeclared, entries_of, entries_at}
+use Rattle.sa_script.specs.Decls.{Declared, IsDeclared, entries_at}
 use Rattle.sa_script.specs.Effects.{stretched, forbids, home_of}
 use Rattle.sa_script.specs.Sound.{IsCall, IsOperation, IsWhole}
 use Rattle.strarr.specs.Plays.{pairs_from}
-use Rattle.strarr.specs.Runs.{Fits, held_at, stored, contents_with, contents_after, outcome_with, outcome_held}
-use Rattle.strarr.proofs.DecideLemmas.{results_length, put_results_whole, length-stretched, fits_few, stretched_few, outcome_set, outcome_show}
+use Rattle.sa_alloc.specs.Layouts.{Layout}
+use Rattle.strarr.specs.Worlds.{values_at}
+use Rattle.strarr.specs.Runs.{world_of, layouts_with, layouts_after, outcome_with, outcome_held, AreLayouts}
+use Rattle.strarr.proofs.DecideLemmas.{length-stretched, fits_few, outcome_set, outcome_show}
+use Rattle.strarr.proofs.WorldLemmas.{length-values_at}
 
 -- a call whose first operand is a literal
 pub record SetShape (d : Declared) (call : Call) (values : List Value) : Type 0 where
@@ -98,29 +101,6 @@ length_few d k declared below =
     let most = declared.entries a.home in
     omega arith
 
--- storing the results of a whole output is putting them
-pub stored_is : (d : Declared) (contents : List Items) (out : View) (forbidden : Bool) (weight : ℕ) (values : List Value) → Fits d contents → IsWhole d out → length values ≡ out.count
-    → stored contents out.array (outcome_with (Some out) forbidden weight values).results ≡ contents_with contents (Some out) (outcome_with (Some out) forbidden weight values).results
-stored_is d contents out forbidden weight values fits whole counted =
-    elim (results_length out forbidden weight values) [
-      | inl none ↦ rw none refl
-      | inr some ↦
-          let held : length (held_at contents out.array) ≡ out.count = fits.lengths out.array whole.declared ∙ sym whole.all in
-          let put = put_results_whole d out (held_at contents out.array) values whole held counted in
-          rw (some, put) refl
-    ]
-
--- the outcome of a call by its shape
-pub outcome_of_set : (d : Declared) (contents : List Items) (call : Call) (values : List Value) (s : SetShape d call values)
-    → outcome_held d contents call ≡ outcome_with (Some s.out) (forbids d (Some s.out)) (weight_of values) (stretched s.out.count values)
-outcome_of_set d contents call values s = ap (outcome_held d contents) s.call_is ∙ outcome_set d (held_at contents) s.out values
-
-pub outcome_of_show : (d : Declared) (contents : List Items) (call : Call) (v : View) → IsDeclared d → Fits d contents → ShowShape d call v
-    → outcome_held d contents call ≡ outcome_with None false (weight_of (held_at contents v.array)) (stretched (length (held_at contents v.array)) (held_at contents v.array))
-outcome_of_show d contents call v declared fits s =
-    ap (outcome_held d contents) s.call_is
-    ∙ outcome_show d (held_at contents) v s.whole (home_below d v.array declared s.whole.declared) (fits.lengths v.array s.whole.declared ∙ sym s.whole.all)
-
 -- one more pair of a task
 pub pairs_from-more : (task k n : ℕ) → k < n → pairs_from task k (n - k) ≡ (task, k) ∷ pairs_from task (k + 1) (n - (k + 1))
 pairs_from-more task k n below =
@@ -128,50 +108,54 @@ pairs_from-more task k n below =
     ap (pairs_from task k) e
 
 -- what performing a call that sets an array rests on
-pub record SetFacts (d : Declared) (contents : List Items) (call : Call) (values : List Value) (out : View) : Type 0 where
-  pub outcome : outcome_held d contents call ≡ outcome_with (Some out) (forbids d (Some out)) (weight_of values) (stretched out.count values)
+pub record SetFacts (d : Declared) (ls : List Layout) (call : Call) (values : List Value) (out : View) : Type 0 where
+  pub outcome : outcome_held d ls call ≡ outcome_with (Some out) (forbids d (Some out)) (weight_of values) (stretched out.count values)
+  pub whole : IsWhole d out
   pub few : length values ≤ 8192
-  pub stretched_few : length (stretched out.count values) ≤ 8192
-  pub stores : stored contents out.array (outcome_with (Some out) (forbids d (Some out)) (weight_of values) (stretched out.count values)).results ≡ contents_after d contents call
+  pub most : out.count ≤ 8192
+  pub fits : length (stretched out.count values) ≡ out.count
+  pub after : layouts_with d ls (Some out) (outcome_with (Some out) (forbids d (Some out)) (weight_of values) (stretched out.count values)).results ≡ layouts_after d ls call
 
-facts_of_shape : (d : Declared) (contents : List Items) (call : Call) (values : List Value) (s : SetShape d call values) → IsDeclared d → Fits d contents → SetFacts d contents call values s.out
-facts_of_shape d contents call values s declared fits =
+facts_of_shape : (d : Declared) (ls : List Layout) (call : Call) (values : List Value) (s : SetShape d call values) → IsDeclared d → SetFacts d ls call values s.out
+facts_of_shape d ls call values s declared =
     let most : s.out.count ≤ 8192 = subst (λ n. n ≤ 8192) (sym s.whole.all) (length_few d s.out.array declared s.whole.declared) in
-    let few = fits_few values s.out.count s.fit most in
-    let outcome = outcome_of_set d contents call values s in
+    let outcome : outcome_held d ls call ≡ outcome_with (Some s.out) (forbids d (Some s.out)) (weight_of values) (stretched s.out.count values) = ap (outcome_held d ls) s.call_is ∙ outcome_set d (values_at d (world_of ls)) s.out values in
     record {
       outcome = outcome;
-      few = few;
-      stretched_few = stretched_few values s.out.count few most;
-      stores =
-          stored_is d contents s.out (forbids d (Some s.out)) (weight_of values) (stretched s.out.count values) fits s.whole (length-stretched values s.out.count s.fit)
-          ∙ ap (λ (o : Outcome). contents_with contents (Some s.out) o.results) (sym outcome)
-          ∙ ap (λ (o : Option View). contents_with contents o (outcome_held d contents call).results) (sym s.out_is);
+      whole = s.whole;
+      few = fits_few values s.out.count s.fit most;
+      most = most;
+      fits = length-stretched values s.out.count s.fit;
+      after =
+          ap (λ (o : Outcome). layouts_with d ls (Some s.out) o.results) (sym outcome)
+          ∙ ap (λ (o : Option View). layouts_with d ls o (outcome_held d ls call).results) (sym s.out_is);
     }
 
-pub set_facts : (d : Declared) (contents : List Items) (call : Call) (items : Items) (values : List Value) (out : View) → IsDeclared d → Fits d contents → IsCall d call
-    → slice_get call.operands 0 ≡ Some (operand.Literal items) → values ≡ values_of items → call.out ≡ Some out → SetFacts d contents call values out
-set_facts d contents call items values out declared fits valid first same out_is =
+pub set_facts : (d : Declared) (ls : List Layout) (call : Call) (items : Items) (values : List Value) (out : View) → IsDeclared d → IsCall d call
+    → slice_get call.operands 0 ≡ Some (operand.Literal items) → values ≡ values_of items → call.out ≡ Some out → SetFacts d ls call values out
+set_facts d ls call items values out declared valid first same out_is =
     let s = set_shape d call items valid first in
     let named : s.out ≡ out = let e : Some s.out ≡ Some out = sym s.out_is ∙ out_is in cc in
-    subst (λ (vs : List Value). SetFacts d contents call vs out) (sym same)
-    (subst (λ (o : View). SetFacts d contents call (values_of items) o) named (facts_of_shape d contents call (values_of items) s declared fits))
+    subst (λ (vs : List Value). SetFacts d ls call vs out) (sym same)
+    (subst (λ (o : View). SetFacts d ls call (values_of items) o) named (facts_of_shape d ls call (values_of items) s declared))
 
 -- what performing a call that shows an array rests on
-pub record ShowFacts (d : Declared) (contents : List Items) (call : Call) (values : List Value) : Type 0 where
-  pub outcome : outcome_held d contents call ≡ outcome_with None false (weight_of values) (stretched (length values) values)
-  pub few : length values ≤ 8192
-  pub kept : contents ≡ contents_after d contents call
+pub record ShowFacts (d : Declared) (ls : List Layout) (call : Call) (array : ℕ) : Type 0 where
+  pub declared : array < length d.arrays
+  pub few : length (values_at d (world_of ls) array) ≤ 8192
+  pub outcome : outcome_held d ls call ≡ outcome_with None false (weight_of (values_at d (world_of ls) array)) (stretched (length (values_at d (world_of ls) array)) (values_at d (world_of ls) array))
+  pub kept : ls ≡ layouts_after d ls call
 
-pub show_facts : (d : Declared) (contents : List Items) (call : Call) (v : View) (values : List Value) → IsDeclared d → Fits d contents → IsCall d call
-    → slice_get call.operands 0 ≡ Some (operand.View v) → values ≡ held_at contents v.array → ShowFacts d contents call values
-show_facts d contents call v values declared fits valid first same =
+pub show_facts : (d : Declared) (ls : List Layout) (call : Call) (v : View) → IsDeclared d → AreLayouts d ls → IsCall d call
+    → slice_get call.operands 0 ≡ Some (operand.View v) → ShowFacts d ls call v.array
+show_facts d ls call v declared are valid first =
     let s = show_shape d call v valid first in
-    let count = fits.lengths v.array s.whole.declared in
+    let long = length-values_at d ls v are s.whole in
     let most = length_few d v.array declared s.whole.declared in
-    let outcome = outcome_of_show d contents call v declared fits s in
-    subst (λ (vs : List Value). ShowFacts d contents call vs) (sym same) (record {
-      outcome = outcome;
+    let all = s.whole.all in
+    record {
+      declared = s.whole.declared;
       few = omega arith;
-      kept = sym (ap (λ (c : Call). contents_with contents c.out (outcome_held d contents call).results) s.call_is);
-    })
+      outcome = ap (outcome_held d ls) s.call_is ∙ outcome_show d (values_at d (world_of ls)) v s.whole (home_below d v.array declared s.whole.declared) long;
+      kept = sym (ap (λ (c : Call). layouts_with d ls c.out (outcome_held d ls call).results) s.call_is);
+    }

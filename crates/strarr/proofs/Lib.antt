@@ -1,5 +1,9 @@
 pub mod CallLemmas
 pub mod DecideLemmas
+pub mod HeldLemmas
+pub mod PieceLemmas
 pub mod PlayLemmas
 pub mod RunLemmas
+pub mod SlotLemmas
 pub mod StreamLemmas
+pub mod WorldLemmas

@@ -1,5 +1,5 @@
 -- What a run has read and written, by the status that it returns: the causes of each status.
-use Rattle.std.specs.Prelude.{◌≡◌, ◌⊎◌, ℕ, ◌+◌, ◌<◌, ◌≤◌, List, [], ◌++◌, length, take, Option, Some, None, option_map, IfSome}
+use Rattle.std.specs.Prelude.{◌≡◌, ◌⊎◌, ℕ, ◌+◌, ◌<◌, ◌≤◌, List, [], ◌++◌, length, take, Option, Some, option_map, IfSome}
 use Rattle.sa_base.specs.Streams.{Rose}
 use Rattle.strarr.specs.Outputs.{answer_of, output_of, most_script_bytes}
 use Rattle.strarr.specs.declared.intake.Intake.{Intake}

@@ -1,4 +1,5 @@
 pub mod Endings
+pub mod Laws
 pub mod Outputs
 pub mod Pieces
 pub mod Plays

@@ -1,5 +1,7 @@
 -- The play of a history: the replies to its calls and the world that they leave, one call after another.
-use Rattle.std.specs.Prelude.{ℕ, zero, suc, ◌+◌, List, [], ◌∷◌, ◌++◌, length, map, slice_index_or, Option, None}
+use Rattle.std.specs.Prelude.{ℕ, zero, suc, ◌+◌, List, [], ◌∷◌, ◌++◌, length, map, slice_index_or, None}
+use Rattle.sa_base.specs.declared.stats.Stats.{Stats}
+use Rattle.sa_alloc.specs.Layouts.{stats_of}
 use Rattle.sa_plain.specs.declared.items.Items.{Items}
 use Rattle.sa_plain.specs.declared.items.Items.TheVariants.{Values}
 use Rattle.sa_script.specs.declared.call.Call.{Call}
@@ -49,6 +51,10 @@ serial tasks = serial_from 0 tasks
 abbrev pub contents_of : Declared → World → List Items
 contents_of decls w = map (λ k. Values (values_at decls w k)) (counted_from 0 (length decls.arrays))
 
--- the report of a history: its replies and the final contents are those of its play
+-- the statistics of the descriptors' layouts in a world, in order of declaration
+abbrev pub stats_in : Declared → World → List Stats
+stats_in decls w = map (λ d. stats_of (w d).layout) (counted_from 0 (length decls.descrs))
+
+-- the report of a history: its replies, the final contents and the statistics are those of its play
 abbrev pub report_of_play : Plan → List (ℕ × ℕ) → List (ℕ × ℕ) → List ℕ
-report_of_play plan history marks = report_of plan history marks (play_replies plan history) (contents_of plan.decls (play_world plan history))
+report_of_play plan history marks = report_of plan history marks (play_replies plan history) (contents_of plan.decls (play_world plan history)) (stats_in plan.decls (play_world plan history))

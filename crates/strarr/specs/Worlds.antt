@@ -1,11 +1,13 @@
 -- Worlds and the effect of a call on one: the list machine.
 use Rattle.std.specs.Prelude.{ℕ, zero, suc, ◌+◌, ◌==◌, nat_lt, Bool, true, false, ◌||◌, List, [], ◌∷◌, ◌++◌, length, take, map, filter, count_by, replicate, slice_index_or, slice_set, sum_by, Option, Some, None, if◌then◌else◌}
-use Rattle.std.specs.List.{list_any}
+use Rattle.std.specs.List.{list_any, zip}
 use Rattle.sa_base.specs.Items.{Item}
 use Rattle.sa_base.specs.Deeds.{Place, Part, Read, Weighed}
-use Rattle.sa_text.specs.Values.{item_of, value_weight, weight_of}
+use Rattle.sa_text.specs.Values.{item_of, weight_of}
 use Rattle.sa_text.specs.declared.value.Value.{Value}
 use Rattle.sa_text.specs.declared.value.Value.TheVariants.{Missing, Of}
+use Rattle.sa_alloc.specs.Layouts.{Layout, opening_layout, first_entry, put_all}
+use Rattle.sa_alloc.specs.Stores.{puts_from}
 use Rattle.sa_plain.specs.Items.{values_of}
 use Rattle.sa_plain.specs.declared.items.Items.{Items}
 use Rattle.sa_script.specs.declared.call.View.{View}
@@ -20,9 +22,10 @@ use Rattle.sa_script.specs.Effects.{Parts, home_of, decide, literal_weight}
 use Rattle.sa_script.specs.Limits.{most_weight}
 use Rattle.sa_script.specs.Views.{places_of, read_at, put_at}
 
--- what a world gives a descriptor: the items of its arrays, in order of declaration
+-- what a world gives a descriptor: the items of its arrays, in order of declaration, and its layout
 pub record State : Type 0 where
   pub strings : List (List Value)
+  pub layout : Layout
 
 -- a world gives each descriptor, by its number, a state
 abbrev pub World : Type 0
@@ -40,9 +43,13 @@ slot_of decls array = count_by (is_at (home_of decls array)) (take array decls.a
 abbrev pub values_at : Declared → World → ℕ → List Value
 values_at decls w array = slice_index_or (w (home_of decls array)).strings (slot_of decls array) []
 
--- the opening world: each entry of each array is the empty text
+-- the lengths of a descriptor's arrays, in order of declaration
+abbrev pub lengths_of : Declared → ℕ → List ℕ
+lengths_of decls d = map (λ (a : ArrayDecl). a.len) (filter (is_at d) decls.arrays)
+
+-- the opening world: each entry of each array is fresh, and reads as the empty text
 abbrev pub opening : Declared → World
-opening decls d = record { strings = map (λ a. replicate a.len (Of [])) (filter (is_at d) decls.arrays) }
+opening decls d = record { strings = map (λ a. replicate a.len (Of [])) (filter (is_at d) decls.arrays); layout = opening_layout (lengths_of decls d) }
 
 -- a view as places of its home
 abbrev pub places_in : Declared → View → List ℕ → List Place
@@ -115,15 +122,22 @@ outcome_in decls read call = decide decls call (parts_of decls read call)
 abbrev pub put_results : List Value → View → Items → List Value
 put_results values out results = put_at values (places_of out) (values_of results)
 
+-- the puts of results into the layout of the output's home, in the order of its places
+abbrev pub result_puts : Declared → Layout → View → Items → List (ℕ × Value)
+result_puts decls l out results = puts_from (first_entry l.lengths (slot_of decls out.array)) (zip (places_of out) (values_of results))
+
 abbrev pub with_results : Declared → World → Option View → Option Items → World
 with_results decls w None results = w
 with_results decls w (Some out) None = w
 with_results decls w (Some out) (Some results) =
     λ d. if home_of decls out.array == d
-    then record { strings = slice_set (w d).strings (slot_of decls out.array) (put_results (values_at decls w out.array) out results) }
+    then record {
+      strings = slice_set (w d).strings (slot_of decls out.array) (put_results (values_at decls w out.array) out results);
+      layout = put_all (w d).layout (result_puts decls (w d).layout out results);
+    }
     else w d
 
--- the effect of a call: its reply, and the world in which its results were put into its output
+-- the effect of a call: its reply, and the world in which its results were put into its output and into the layout of its home
 abbrev pub reply_in : Declared → World → Call → Reply
 reply_in decls w call = (outcome_in decls (values_at decls w) call).reply
 

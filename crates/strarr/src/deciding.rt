@@ -1,7 +1,6 @@
 ghost use Rattle.std.specs.Prelude.{◌≡◌, ◌≤◌, ◌<◌, ◌^◌, length, slice_index_or, IfOk, Some};
 ghost use Rattle.sa_text.specs.declared.value.Value.TheVariants.{Missing};
 ghost use Rattle.sa_script.specs.Effects.{stretched, refused, refusal_of, forbids};
-ghost use Rattle.strarr.specs.Runs.{gathered};
 
 use sa_base::Memory;
 use sa_descr::rule_of;
@@ -57,28 +56,36 @@ fn refusal_of(forbidden: bool, weight: u64, value: &Value) -> Option<Refusal>
     }
 }
 
-/// Copies of the values, stretched to a count, or the first refusal among them: a missing value that
-/// is forbidden, or one with which the weight passes its limit.
-pub fn gathered(
-    alloc: Global,
+/// The first refusal among values that are stretched to a count: a missing value that is forbidden,
+/// or one with which the weight passes its limit.
+pub fn first_refusal(
     forbidden: bool,
     weight: u64,
     count: usize,
     values: &[Value],
-) -> Result<Result<ValueList, (Refusal, u32)>, Memory>
+) -> Option<(Refusal, u32)>
     requires light { weight ≤ 1048576 }
     requires few { length (stretched count values.now) < 2 ^ 32 }
-    ensures { IfOk result (λ g. g ≡ gathered (stretched count values.now) (refused forbidden weight 0 (stretched count values.now))) }
+    ensures { result ≡ refused forbidden weight 0 (stretched count values.now) }
 {
     let mut weight = weight;
-    let mut results = ValueList::new(alloc);
     for k in 0..stretched_len(count, values) {
         let value = stretched_at(count, values, k);
         if let Some(cause) = refusal_of(forbidden, weight, value) {
-            return Ok(Err((cause, k as u32)));
+            return Some((cause, k as u32));
         }
         weight += value_weight(value);
-        results.push(value.copy(alloc)?)?;
     }
-    Ok(Ok(results))
+    None
+}
+
+/// Copies of values, stretched to a count.
+pub fn repeated(alloc: Global, count: usize, values: &[Value]) -> Result<ValueList, Memory>
+    ensures { IfOk result (λ v. v ≡ stretched count values.now) }
+{
+    let mut copies = ValueList::new(alloc);
+    for k in 0..stretched_len(count, values) {
+        copies.push(stretched_at(count, values, k).copy(alloc)?)?;
+    }
+    Ok(copies)
 }

@@ -4,12 +4,15 @@
 
 mod deciding;
 mod intake;
+mod laws;
 mod runner;
 mod status;
+mod stores;
 mod streams;
 mod top;
 mod words;
 
+pub use laws::layouts_show_items;
 use sa_base::{StdSink, StdSource};
 pub use status::Status;
 use std::env;

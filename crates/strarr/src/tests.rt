@@ -40,19 +40,43 @@ fn scripts_have_their_reports(rt: HostRuntime) -> Result<(), Fail> {
         (b"end\n", b"report 1\nhistory\nmarked\nend\n"),
         (
             b"descr d absent\narray a d str 2\ntask\nset a (\"hi\",\"\xc3\xa9\\\"\")\nshow a\nset a \"x\"\nend\n",
-            b"report 1\nhistory 0:0 0:1 0:2\nmarked\ntask 0\n0 done\n1 shown (\"hi\",\"\xc3\xa9\\\"\")\n2 done\narray a (\"x\",\"x\")\nend\n",
+            b"report 1\nhistory 0:0 0:1 0:2\nmarked\ntask 0\n0 done\n1 shown (\"hi\",\"\xc3\xa9\\\"\")\n2 done\narray a (\"x\",\"x\")\nstats d cursor 0 live 0 dead 0 outside 0\nend\n",
         ),
         (
             b"descr d text \"-\"\ndescr e absent strict\narray a d str 2\narray b e str 1\ntask\nset a (\"x\",na)\ntask\nset b na\nshow a\nend\n",
-            b"report 1\nhistory 0:0 1:0 1:1\nmarked\ntask 0\n0 done\ntask 1\n0 refused 1 0\n1 shown (\"x\",na)\narray a (\"x\",na)\narray b (\"\")\nend\n",
+            b"report 1\nhistory 0:0 1:0 1:1\nmarked\ntask 0\n0 done\ntask 1\n0 refused 1 0\n1 shown (\"x\",na)\narray a (\"x\",na)\narray b (\"\")\nstats d cursor 0 live 0 dead 0 outside 0\nstats e cursor 0 live 0 dead 0 outside 0\nend\n",
         ),
         (
             b"# controls\r\ndescr d nan\r\narray a d str 1\r\ntask\r\nset a \"\\u{9}\\u{7f}\\u{1f}\x7f\"\r\nshow a\r\nend",
-            b"report 1\nhistory 0:0 0:1\nmarked\ntask 0\n0 done\n1 shown (\"\\u{9}\\u{7f}\\u{1f}\\u{7f}\")\narray a (\"\\u{9}\\u{7f}\\u{1f}\\u{7f}\")\nend\n",
+            b"report 1\nhistory 0:0 0:1\nmarked\ntask 0\n0 done\n1 shown (\"\\u{9}\\u{7f}\\u{1f}\\u{7f}\")\narray a (\"\\u{9}\\u{7f}\\u{1f}\\u{7f}\")\nstats d cursor 0 live 0 dead 0 outside 0\nend\n",
         ),
         (
             b"descr d absent\narray a d str 2\narray b d str 2\ntask\nset a (\"p\",\"q\")\nset b (\"r\",na)\nshow b\nend\n",
-            b"report 1\nhistory 0:0 0:1 0:2\nmarked\ntask 0\n0 done\n1 refused 1 1\n2 shown (\"\",\"\")\narray a (\"p\",\"q\")\narray b (\"\",\"\")\nend\n",
+            b"report 1\nhistory 0:0 0:1 0:2\nmarked\ntask 0\n0 done\n1 refused 1 1\n2 shown (\"\",\"\")\narray a (\"p\",\"q\")\narray b (\"\",\"\")\nstats d cursor 0 live 0 dead 0 outside 0\nend\n",
+        ),
+    ];
+    for (script, report) in cases {
+        let (status, written) = serial(rt.alloc(), script)?;
+        assert_eq!(rt; status, Status::Done, "at {script:?}");
+        assert_eq!(rt; written.as_slice(), report, "at {script:?}");
+    }
+    Ok(())
+}
+
+#[test]
+fn texts_lie_where_the_layout_puts_them(rt: HostRuntime) -> Result<(), Fail> {
+    let cases: [(&[u8], &[u8]); 3] = [
+        (
+            b"descr d absent\narray b d str 2\ntask\nset b (\"abcdefghijklmno\",\"abcdefghijklmnop\")\nend\n",
+            b"report 1\nhistory 0:0\nmarked\ntask 0\n0 done\narray b (\"abcdefghijklmno\",\"abcdefghijklmnop\")\nstats d cursor 17 live 17 dead 0 outside 0\nend\n",
+        ),
+        (
+            b"descr d nan\narray a d str 1\ntask\nset a \"abcdefghijklmnop\"\nset a \"abcdefghijklmnopqrst\"\nset a na\nset a \"abcdefghijklmnop\"\nend\n",
+            b"report 1\nhistory 0:0 0:1 0:2 0:3\nmarked\ntask 0\n0 done\n1 done\n2 done\n3 done\narray a (\"abcdefghijklmnop\")\nstats d cursor 0 live 0 dead 0 outside 1\nend\n",
+        ),
+        (
+            b"descr d nan\ndescr e nan\narray a d str 1\narray b e str 1\narray c d str 1\ntask\nset a \"abcdefghijklmnop\"\nset c \"abcdefghijklmnop\"\nset b \"abcdefghijklmnop\"\nset a \"x\"\nend\n",
+            b"report 1\nhistory 0:0 0:1 0:2 0:3\nmarked\ntask 0\n0 done\n1 done\n2 done\n3 done\narray a (\"x\")\narray b (\"abcdefghijklmnop\")\narray c (\"abcdefghijklmnop\")\nstats d cursor 34 live 17 dead 17 outside 0\nstats e cursor 17 live 17 dead 0 outside 0\nend\n",
         ),
     ];
     for (script, report) in cases {

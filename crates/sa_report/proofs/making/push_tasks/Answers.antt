@@ -1,4 +1,4 @@
-use Rattle.std.proofs.Common.{◌≡◌, List, ℕ, ◌+◌, ◌++◌, [], length, drop, get_or, sym, ap, ◌∙◌, arith}
+use Rattle.std.proofs.Common.{List, ◌+◌, ◌++◌, [], length, drop, sym, ap, ◌∙◌}
 use Rattle.sa_script.specs.declared.call.Call.{Call}
 use Rattle.sa_report.specs.Reports.{task_block, task_lines}
 use Rattle.sa_report.proofs.ReportLemmas.{task_lines-drop, answered, onward}

@@ -1,4 +1,4 @@
-use Rattle.std.proofs.Common.{◌≡◌, ℕ, List, ◌+◌, ◌-◌, ◌++◌, ◌∷◌, [], sym, ap, ◌∙◌, append_assoc, arith}
+use Rattle.std.proofs.Common.{ℕ, List, ◌+◌, ◌-◌, ◌++◌, ◌∷◌, [], sym, ap, ◌∙◌, append_assoc}
 use Rattle.strarr.specs.Plays.{pairs_from}
 use Rattle.strarr.proofs.CallLemmas.{pairs_from-more}
 use Rattle.strarr.proofs.runner.push_pairs.Goals as goal

@@ -16,5 +16,5 @@ pub returns : goal.returns
 returns c =
     let s = c.self.inside in
     let below = entry-below s.lengths.items s.arena.extents s.outside.texts s.entries.items _ _ _ (c.first.result + c.args.place) c.self.view_is (let few = c.first.ensures.few in let within = c.requires.within in omega arith) in
-    c.bytes.ensures ∙ ap spelling c.without_key.ensures
+    c.bytes.ensures.spelling ∙ ap spelling c.without_key.ensures
     ∙ image-read s.lengths.items s.arena.extents s.outside.texts s.entries.items _ _ _ _ _ c.first.result _ c.self.invariant.tied below c.self.view_is c.first.ensures.first (read-slot _ _ _ below c.index-entry.ensures)
