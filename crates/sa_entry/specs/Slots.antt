@@ -1,5 +1,5 @@
 -- What an entry is, and the sixteen bytes that spell it. Source: the packed string of NumPy's StringDType (NEP 55); which flags stand for which state is this project's own.
-use Rattle.std.specs.Prelude.{ℕ, ◌+◌, ◌-◌, ◌^◌, ◌<◌, ◌≤◌, Bool, true, false, if◌then◌else◌, List, [], ◌∷◌, ◌++◌, length, take, replicate}
+use Rattle.std.specs.Prelude.{ℕ, ◌≡◌, ◌+◌, ◌-◌, ◌^◌, ◌<◌, ◌≤◌, Bool, true, false, if◌then◌else◌, List, [], ◌∷◌, ◌++◌, length, take, replicate, Option, Some}
 use Rattle.std.specs.Int.{to_le_bytes, w64}
 use Rattle.std.specs.List.{AllByRecursion}
 use Rattle.sa_entry.specs.declared.form.Form.{Form}
@@ -76,3 +76,7 @@ inside_bytes (Inline bytes) = bytes
 inside_bytes (InArena at size long) = []
 inside_bytes (Outside key size) = []
 inside_bytes Missing = []
+
+-- a reading of bytes gives each slot whose spelling they are
+abbrev pub IsReading : List ℕ → Option Slot → Type 0
+IsReading bytes read = (slot : Slot) → IsSlot slot → spelling slot ≡ bytes → read ≡ Some slot

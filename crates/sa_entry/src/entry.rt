@@ -1,5 +1,5 @@
-ghost use Rattle.std.specs.Prelude.{◌≡◌, ◌≤◌, ◌<◌, ◌++◌, ◌∷◌, [], length, true, false, Some, IfSome, IfNone, IsTrue, ◌↔◌};
-ghost use Rattle.sa_entry.specs.Slots.{Slot, Fresh, Inline, InArena, Outside, Missing, IsSlot, spelling, form_of, is_inside, inside_bytes, word, size_bytes, IsOuterSize};
+ghost use Rattle.std.specs.Prelude.{◌≡◌, ◌≤◌, ◌<◌, ◌++◌, ◌∷◌, [], length, true, false, Option, Some, IfSome, IfNone, IsTrue, ◌↔◌};
+ghost use Rattle.sa_entry.specs.Slots.{Slot, Fresh, Inline, InArena, Outside, Missing, IsSlot, spelling, form_of, is_inside, inside_bytes, word, size_bytes, IsOuterSize, IsReading};
 ghost use Rattle.sa_entry.specs.Readings.{slot_of, first_word, size_in, IsSpelling};
 
 use crate::form::Form;
@@ -142,10 +142,10 @@ impl Entry {
         &self.bytes[..size as usize]
     }
 
-    /// The sixteen bytes of the slot, as every entry spells its own.
+    /// The sixteen bytes of the slot; they read as the entry and as nothing else.
     pub fn bytes(&self) -> [u8; 16]
         ensures spelling { result ≡ spelling self.now }
-        ensures slot { IsSlot self.now }
+        ensures again { (read : Option Slot) → IsReading result read → read ≡ Some self.now }
     {
         self.bytes
     }
@@ -153,7 +153,7 @@ impl Entry {
     /// The slot that the bytes spell; none exactly where they are no spelling.
     pub fn read(bytes: [u8; 16]) -> Option<Entry>
         ensures spelled { IfSome result (λ slot. IsSlot slot × (spelling slot ≡ bytes)) }
-        ensures again { (slot : Slot) → IsSlot slot → spelling slot ≡ bytes → result ≡ Some slot }
+        ensures again { IsReading bytes result }
     {
         // The slot is spelled anew, so no rule of the spelling stands here a second time.
         let entry = likely(&bytes)?;
