@@ -159,11 +159,11 @@ grown-enough r bytes =
       | inr f_is ↦ rw f_is (omega arith)
     ]
 
-pub plan-room : (l : Layout) (first : ℕ) (places : List ℕ) (values : List Value) (bytes keys : ℕ) (r : Region) (size spare : ℕ) → AreDistinct places
+pub plan-room : (l : Layout) (first : ℕ) (places : List ℕ) (values : List Value) (bytes keys : ℕ) (r : Region) (texts : List (Option (List ℕ))) (size spare : ℕ) → AreDistinct places
     → bytes ≡ all_bytes l.states (puts_from first (zip places values)) → keys ≡ all_keys l.states (puts_from first (zip places values))
     → cursor_of r.extents ≡ cursor_of l.extents → size ≡ grown_size r bytes → keys ≤ spare
-    → HasRoom (record { layout = l; size = size; spare = spare }) (puts_from first (zip places values))
-plan-room l first places values bytes keys r size spare distinct bytes_is keys_is cursor size_is keys_fit =
+    → HasRoom (record { layout = l; keys = texts; size = size; spare = spare }) (puts_from first (zip places values))
+plan-room l first places values bytes keys r texts size spare distinct bytes_is keys_is cursor size_is keys_fit =
     let puts = puts_from first (zip places values) in
     let apart = plan-apart first places values distinct in
     let exact = bytes-all l puts apart in

@@ -68,7 +68,7 @@ step-puts lengths es ks ss i v f es' ks' new tied h f_is spelled steps =
 
 -- what contracts see of a store with these parts
 abbrev pub stored : List ℕ → List Extent → List (Option (List ℕ)) → List Slot → ℕ → ℕ → Stored
-stored lengths es ks ss size spare = record { layout = layout_from lengths es ks ss; size = size; spare = spare }
+stored lengths es ks ss size spare = record { layout = layout_from lengths es ks ss; keys = ks; size = size; spare = spare }
 
 pub entry-below : (lengths : List ℕ) (es : List Extent) (ks : List (Option (List ℕ))) (ss : List Slot) (size spare : ℕ) (now : Stored) (i : ℕ) → stored lengths es ks ss size spare ≡ now → i < length now.layout.states → i < length ss
 entry-below lengths es ks ss size spare now i e h =

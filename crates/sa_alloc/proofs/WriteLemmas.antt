@@ -51,11 +51,11 @@ writes-on end size now after first p ps w layout same spare =
     let cursor = cursor-put now.layout (first + p.0) p.1 in
     let bytes = w.bytes in
     let keys = w.keys in
-    let it : IsWriting end size (record { layout = next; size = after.size; spare = after.spare }) first ps = record {
+    let it : IsWriting end size (record { layout = next; keys = after.keys; size = after.size; spare = after.spare }) first ps = record {
       goes = w.goes;
       entries = entries-put _ _ first ps (length-set now.layout.states (first + p.0) _) w.entries.1;
       bytes = omega arith;
       keys = omega arith;
       kept = same ∙ w.kept;
     } in
-    subst (λ l. IsWriting end size (record { layout = l; size = after.size; spare = after.spare }) first ps) (sym layout) it
+    subst (λ l. IsWriting end size (record { layout = l; keys = after.keys; size = after.size; spare = after.spare }) first ps) (sym layout) it

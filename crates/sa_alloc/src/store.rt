@@ -1,4 +1,4 @@
-ghost use Rattle.std.specs.Prelude.{ℕ, ◌≡◌, ◌+◌, ◌≤◌, ◌<◌, ◌^◌, length, slice_index, zip, IfOk, replicate};
+ghost use Rattle.std.specs.Prelude.{ℕ, ◌≡◌, ◌+◌, ◌≤◌, ◌<◌, ◌^◌, [], length, slice_index, zip, IfOk, replicate};
 ghost use Rattle.std.specs.List.{AllByRecursion};
 ghost use Rattle.sa_entry.specs.Slots.{Fresh};
 ghost use Rattle.sa_arena.specs.Extents.{cursor_of};
@@ -37,7 +37,7 @@ impl Model for Store {
 
     ghost Value = { Stored };
 
-    ghost view = { λ s. record { layout = layout_from s.lengths.items s.arena.extents s.outside.texts s.entries.items; size = s.arena.size; spare = s.outside.spare } };
+    ghost view = { λ s. record { layout = layout_from s.lengths.items s.arena.extents s.outside.texts s.entries.items; keys = s.outside.texts; size = s.arena.size; spare = s.outside.spare } };
 
     ghost invariant = { λ s. IsStore s.lengths.items s.starts.items s.arena.extents s.outside.texts s.entries.items };
 }
@@ -72,6 +72,7 @@ impl Store {
         requires distinct { AreDistinct places.now }
         requires places { AllByRecursion (λ (p : ℕ). p < slice_index self.old.layout.lengths array) places.now }
         ensures layout { self.new.layout ≡ self.old.layout }
+        ensures keys { self.new.keys ≡ self.old.keys }
         ensures grows { (self.old.size ≤ self.new.size) × (self.old.spare ≤ self.new.spare) }
         ensures plan { IfOk result (λ plan. plan ≡ record { array = array; puts = zip places.now values.now }) }
         ensures valid { IfOk result (λ plan. IsPlan self.old.layout.lengths plan) }
@@ -132,7 +133,7 @@ impl Store {
     /// together.
     pub fn new(alloc: Global, lengths: &[u32]) -> Result<Store, Memory>
         requires { IsSmall lengths.now }
-        ensures { IfOk result (λ s. s ≡ record { layout = opening_layout lengths.now; size = 0; spare = 0 }) }
+        ensures { IfOk result (λ s. s ≡ record { layout = opening_layout lengths.now; keys = []; size = 0; spare = 0 }) }
     {
         let mut starts = Vec::with_capacity(alloc, lengths.len())?;
         let mut total = 0u32;

@@ -38,7 +38,7 @@ get_or-lengths (t ∷ ts) (suc k) d below = get_or-lengths ts k d (omega arith)
 pub answered : (tasks : List (List Call)) (history : List (ℕ × ℕ)) (replies : List Reply) (task : ℕ) (d : List Call) → IsHistory (map length tasks) history [] → length replies ≡ length history → task < length tasks
     → length (replies_of task history replies) ≡ length (get_or tasks task d)
 answered tasks history replies task d h e below =
-    length-replies_of task history replies e ∙ ap (λ (ns : List ℕ). length ns) (h task) ∙ length-unmarked task 0 (get_or (map length tasks) task 0) ∙ get_or-lengths tasks task d below
+    length-replies_of task history replies e ∙ ap (λ (ns : List ℕ). length ns) (h.calls task) ∙ length-unmarked task 0 (get_or (map length tasks) task 0) ∙ get_or-lengths tasks task d below
 
 -- one more task
 pub task_lines-drop : (history : List (ℕ × ℕ)) (replies : List Reply) (tasks : List (List Call)) (k : ℕ) (d : List Call) → k < length tasks

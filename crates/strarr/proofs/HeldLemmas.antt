@@ -210,7 +210,7 @@ pub stats-all : (d : Declared) (stores : List Stored) → AreLayouts d (layouts_
 stats-all d stores are =
     let count = are.count in
     let long : length (layouts_of stores) ≡ length stores = length-map stores (λ (s : Stored). s.layout) in
-    let none : Stored = record { layout = opening_layout []; size = 0; spare = 0 } in
+    let none : Stored = record { layout = opening_layout []; keys = []; size = 0; spare = 0 } in
     let all : length (map (λ (s : Stored). stats_of s.layout) stores) ≡ length stores = length-map stores (λ (s : Stored). stats_of s.layout) in
     sym (counted_list (λ k. stats_of (layout_at (layouts_of stores) k)) (map (λ (s : Stored). stats_of s.layout) stores) (stats_of (opening_layout [])) 0 (length d.descrs) (omega arith)
     (λ i h. ap stats_of (get_or-map (λ (s : Stored). s.layout) stores i none (opening_layout []) (omega arith)) ∙ sym (get_or-map (λ (s : Stored). stats_of s.layout) stores i none (stats_of (opening_layout [])) (omega arith))))

@@ -1,6 +1,5 @@
 -- Lists in pieces, and a piece that is replaced.
 use Rattle.std.proofs.Common.{◌≡◌, ◌<◌, ◌+◌, ℕ, zero, suc, List, [], ◌∷◌, ◌++◌, length, map, take, drop, sum, replicate, refl, sym, ap, ◌∙◌, arith, get_or, set, append_assoc}
-use Rattle.std.specs.List.{flat_map}
 use Rattle.std.proofs.lemmas.List.Sums.{sum_by-cons}
 use Rattle.std.proofs.lemmas.List.{take-append-drop, length-drop, length-take-le, length-replicate}
 use Rattle.std.proofs.Math.Seq.{take-append-add, drop-append-add, take-append_seam, drop-append_seam}
@@ -66,15 +65,6 @@ piece-at (n ∷ ns) xs zero below = refl
 piece-at (n ∷ ns) xs (suc slot) below =
     piece-at ns (drop n xs) slot (omega arith)
     ∙ ap (take (get_or ns slot 0)) (drop-drop n (sum (take slot ns)) xs ∙ ap (λ k. drop k xs) (sym (sum-cons n (take slot ns))))
-
--- the pieces together are the list
-pub pieces-flat : {A : Type 0} (ns : List ℕ) (xs : List A) → length xs ≡ sum ns → flat_map (λ (ys : List A). ys) (pieces ns xs) ≡ xs
-pieces-flat [] [] long = refl
-pieces-flat [] (x ∷ xs) long = let none : sum [] ≡ 0 = refl in absurd (omega arith)
-pieces-flat (n ∷ ns) xs long =
-    let total = sum-cons n ns in
-    let back_long = length-drop n xs in
-    ap (λ ys. take n xs ++ ys) (pieces-flat ns (drop n xs) (omega arith)) ∙ take-append-drop n xs
 
 -- pieces of one item alone
 pub pieces-replicate : {A : Type 0} (ns : List ℕ) (x : A) → pieces ns (replicate (sum ns) x) ≡ map (λ n. replicate n x) ns

@@ -1,10 +1,11 @@
 -- What a play of a serial history comes to: the replies and the contents that its calls give one after another.
-use Rattle.std.proofs.Common.{◌≡◌, ◌⊎◌, inl, inr, ℕ, zero, suc, ◌+◌, ◌<◌, true, false, eqb, List, [], ◌∷◌, ◌++◌, length, map, get_or, drop, Option, Some, None, refl, sym, ap, ◌∙◌, subst, arith, add-one, length-append}
-use Rattle.std.specs.List.{AllByRecursion, flat_map}
-use Rattle.std.proofs.lemmas.Bool.{eq-eqb, ne_eqb}
+use Rattle.std.proofs.Common.{◌≡◌, ◌⊎◌, inl, inr, ℕ, zero, suc, ◌+◌, ◌<◌, Bool, true, false, eqb, List, [], ◌∷◌, ◌++◌, length, map, take, get_or, drop, get_or-set_other, Option, Some, None, refl, sym, ap, ◌∙◌, subst, arith, add-one, length-append}
+use Rattle.std.specs.List.{AllByRecursion, count_by}
+use Rattle.std.proofs.lemmas.Bool.{eq-eqb, eqb-true, ne_eqb}
 use Rattle.std.proofs.lemmas.List.{append-nil, map-append}
 use Rattle.sa_text.specs.Values.{weight_of}
 use Rattle.sa_text.specs.declared.value.Value.{Value}
+use Rattle.sa_text.specs.declared.value.Value.TheVariants.{Missing}
 use Rattle.sa_plain.specs.declared.items.Items.TheVariants.{Values}
 use Rattle.sa_script.specs.declared.call.View.{View}
 use Rattle.sa_script.specs.declared.call.Op.{Op}
@@ -13,20 +14,22 @@ use Rattle.sa_script.specs.declared.call.Operand.{Operand}
 use Rattle.sa_script.specs.declared.call.Operand.TheVariants as operand
 use Rattle.sa_script.specs.declared.reply.Outcome.{Outcome}
 use Rattle.sa_script.specs.Calls.{lengths_fit}
-use Rattle.sa_script.specs.Effects.{forbids, stretched}
+use Rattle.sa_script.specs.Contexts.{array_at, length_at}
+use Rattle.sa_script.specs.Effects.{home_of, forbids, stretched}
 use Rattle.sa_script.specs.declared.call.Call.{Call}
 use Rattle.sa_script.specs.Decls.{Declared, IsDeclared, Known}
 use Rattle.sa_script.specs.Sound.{IsWhole, IsOperation, IsCall, AreCalls}
 use Rattle.sa_report.specs.Histories.{calls_of, unmarked, IsHistory}
 use Rattle.sa_plain.specs.declared.items.Items.{Items}
 use Rattle.strarr.specs.Plays.{call_at, replies_to, world_left, play_replies, play_world, pairs_from, serial_from, serial}
-use Rattle.strarr.specs.Runs.{world_of, layouts_with, layouts_after, layouts_left, opening_layouts, outcome_held, outcome_with, AreLayouts}
-use Rattle.strarr.specs.Worlds.{World, counted_from, values_at, with_results, outcome_in, reply_in, world_after, opening}
+use Rattle.strarr.specs.Runs.{world_of, layout_at, layouts_with, layouts_after, layouts_left, opening_layouts, outcome_held, outcome_with, AreLayouts}
+use Rattle.strarr.specs.Worlds.{World, is_at, slot_of, counted_from, values_at, with_results, outcome_in, reply_in, world_after, opening}
 use Rattle.strarr.proofs.DecideLemmas.{outcome_set, results_length, length-stretched}
-use Rattle.strarr.proofs.WorldLemmas.{Goes, goes-none, goes-with, opening-goes, shown-flat}
-use Rattle.sa_alloc.specs.Layouts as layouts
-use Rattle.sa_alloc.specs.Layouts.{Layout}
-use Rattle.strarr.specs.Laws.{LayoutsShowItems}
+use Rattle.strarr.proofs.WorldLemmas.{Goes, goes-none, goes-with, opening-goes, slot-within, slot-length}
+use Rattle.strarr.proofs.HeldLemmas.{length-strings, shows-entry}
+use Rattle.strarr.proofs.SlotLemmas.{slots_apart, at_home, no_array}
+use Rattle.sa_alloc.specs.Layouts.{Layout, first_entry, value_at}
+use Rattle.strarr.specs.Laws.{ShowsItems, LayoutsShowItems, LeavesRest, CallsLeaveRest}
 
 -- the first of what is behind some items, and the rest
 drop_head : {A : Type 0} (xs : List A) (k : ℕ) (x : A) (ys : List A) (d : A) → drop k xs ≡ x ∷ ys → get_or xs k d ≡ x
@@ -79,7 +82,10 @@ calls_serial j t (suc i) (calls ∷ others) same =
 
 -- the serial history is one without marks
 pub serial_is_history : (tasks : List (List Call)) → IsHistory (map (λ (calls : List Call). length calls) tasks) (serial tasks) []
-serial_is_history tasks j = calls_serial j 0 j tasks (omega arith) ∙ sym (unmarked_all 0 (get_or (map (λ (calls : List Call). length calls) tasks) j 0))
+serial_is_history tasks = record {
+  calls = λ j. calls_serial j 0 j tasks (omega arith) ∙ sym (unmarked_all 0 (get_or (map (λ (calls : List Call). length calls) tasks) j 0));
+  marked = tt;
+}
 
 -- the calls of tasks, one task after another
 abbrev pub all_calls : List (List Call) → List Call
@@ -264,8 +270,56 @@ shown-left : (d : Declared) (tasks : List (List Call)) (w : World) (history : Li
 shown-left d tasks w [] declared valid shown = shown
 shown-left d tasks w (p ∷ ps) declared valid shown = shown-left d tasks (world_after d w (call_at tasks p)) ps declared valid (shown-after d w (call_at tasks p) declared (call-at-or-none d tasks p valid) shown)
 
+-- the items of an array stand in the layout of its home
+shows-items : (d : Declared) (held : List Layout) (array : ℕ) → AreLayouts d held → array < length d.arrays → ShowsItems d (world_of held) array
+shows-items d held array are below =
+    let h = home_of d array in
+    let slot = slot_of d array in
+    let l = layout_at held h in
+    let is = are.each h in
+    let inside : slot < length l.lengths = subst (λ ns. slot < length ns) (sym is.lengths) (slot-within d array below) in
+    let count : get_or l.lengths slot 0 ≡ length_at d.arrays array = ap (λ ns. get_or ns slot 0) is.lengths ∙ slot-length d array below in
+    record {
+      lengths = is.lengths;
+      count = length-strings l slot inside is.states ∙ count;
+      items = λ p within.
+          ap (λ ns. value_at l (first_entry ns slot + p)) (sym is.lengths)
+          ∙ (shows-entry l slot p Missing inside (omega arith) is.states).value;
+    }
+
 pub layouts-show : LayoutsShowItems
-layouts-show plan history declared valid h =
+layouts-show plan history declared valid array below =
     let open_is = opening-goes plan.decls declared in
     let shown = shown-left plan.decls plan.tasks (opening plan.decls) history declared valid (record { held = opening_layouts plan.decls; are = open_is.are; world = open_is.world }) in
-    subst (λ (w : World). layouts.values_of (w h).layout ≡ flat_map (λ (items : List Value). items) (w h).strings) shown.world (shown-flat plan.decls shown.held h shown.are)
+    subst (λ (w : World). ShowsItems plan.decls w array) shown.world (shows-items plan.decls shown.held array shown.are below)
+
+-- what a call leaves alone
+
+-- results that are put leave other homes, and other arrays of the home
+leaves-with : (d : Declared) (w : World) (out : View) (results : Option Items) (array : ℕ) → out.array < length d.arrays → array < length d.arrays → eqb out.array array ≡ false
+    → values_at d (with_results d w (Some out) results) array ≡ values_at d w array
+leaves-with d w out None array known below apart = refl
+leaves-with d w out (Some items) array known below apart = go (eqb (home_of d out.array) (home_of d array)) refl
+  where
+    go : (b : Bool) → eqb (home_of d out.array) (home_of d array) ≡ b → values_at d (with_results d w (Some out) (Some items)) array ≡ values_at d w array
+    go false e = rw e refl
+    go true e =
+        let home : home_of d out.array ≡ home_of d array = eqb-true (home_of d out.array) (home_of d array) e in
+        let here : is_at (home_of d array) (array_at d.arrays out.array) ≡ true = e in
+        let other : slot_of d array ≡ slot_of d out.array → ⊥ = λ same.
+        slots_apart (is_at (home_of d array)) d.arrays array out.array no_array below known (at_home d array) here (λ one. let yes = eq-eqb out.array array (sym one) in cc)
+        (same ∙ ap (λ h. count_by (is_at h) (take out.array d.arrays)) home) in
+        rw e (get_or-set_other (w (home_of d array)).strings (slot_of d out.array) (slot_of d array) _ [] other)
+
+leaves-homes : (d : Declared) (w : World) (out : View) (results : Option Items) (h : ℕ) → eqb (home_of d out.array) h ≡ false → with_results d w (Some out) results h ≡ w h
+leaves-homes d w out None h apart = refl
+leaves-homes d w out (Some items) h apart = rw apart refl
+
+pub leaves-rest : CallsLeaveRest
+leaves-rest d w call valid = call_cases d (LeavesRest d w)
+    (λ values out whole fit. record {
+      homes = λ h apart. leaves-homes d w out (outcome_in d (values_at d w) (set_of values out)).results h apart;
+      arrays = λ array below apart. leaves-with d w out (outcome_in d (values_at d w) (set_of values out)).results array whole.declared below apart;
+    })
+    (λ v whole. record { homes = λ h apart. refl; arrays = λ array below apart. refl })
+    call valid

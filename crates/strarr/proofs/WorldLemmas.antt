@@ -1,6 +1,6 @@
 -- The world that layouts show goes as the play goes.
 use Rattle.std.proofs.Common.{◌≡◌, ◌⊎◌, inl, inr, ◌≤◌, ◌<◌, ◌≢◌, ◌+◌, ℕ, zero, suc, true, false, eqb, List, [], ◌∷◌, ◌++◌, length, map, take, drop, sum, replicate, get_or, set, Some, refl, sym, ap, ◌∙◌, subst, arith, append_assoc, add-one}
-use Rattle.std.specs.List.{filter, flat_map, zip}
+use Rattle.std.specs.List.{filter, zip}
 use Rattle.std.proofs.lemmas.Bool.{eq-eqb, cases_lt}
 use Rattle.std.proofs.lemmas.Bool.Decides.{eqb_tells}
 use Rattle.std.proofs.lemmas.List.Sums.{length-filter, sum_by_more_le}
@@ -23,7 +23,7 @@ use Rattle.sa_script.specs.Effects.{home_of}
 use Rattle.sa_script.specs.Sound.{IsWhole}
 use Rattle.strarr.specs.Worlds.{State, World, is_at, slot_of, lengths_of, values_at, opening, counted_from, put_results, result_puts, with_results}
 use Rattle.strarr.specs.Runs.{layout_at, pieces, strings_in, world_of, layouts_with, opening_layouts, IsLayout, AreLayouts}
-use Rattle.strarr.proofs.PieceLemmas.{spliced, pieces-spliced, piece-at, pieces-flat, pieces-replicate}
+use Rattle.strarr.proofs.PieceLemmas.{spliced, pieces-spliced, piece-at, pieces-replicate}
 use Rattle.strarr.proofs.DecideLemmas.{places_of_whole, put_results_whole}
 use Rattle.strarr.proofs.SlotLemmas.{slot_below, kept_at, at_home, home_below, none_at, no_array}
 
@@ -251,10 +251,3 @@ opening-goes d declared = record {
     at h =
         ap (λ x. let s : State = record { strings = strings_in x; layout = x } in s) (opening-at d h declared)
         ∙ ap (λ x. let s : State = record { strings = x; layout = opening_layout (lengths_of d h) } in s) (strings-opening (lengths_of d h) ∙ strings-is h)
-
--- the values of the layouts are the items of the arrays
-pub shown-flat : (d : Declared) (ls : List Layout) (h : ℕ) → AreLayouts d ls → layouts.values_of (layout_at ls h) ≡ flat_map (λ (items : List Value). items) (world_of ls h).strings
-shown-flat d ls h are =
-    let l = layout_at ls h in
-    let is = are.each h in
-    sym (pieces-flat l.lengths (layouts.values_of l) (length-values l ∙ is.states))

@@ -12,7 +12,7 @@ mod streams;
 mod top;
 mod words;
 
-pub use laws::layouts_show_items;
+pub use laws::{calls_leave_rest, layouts_show_items};
 use sa_base::{StdSink, StdSource};
 pub use status::Status;
 use std::env;

@@ -9,8 +9,10 @@ use Rattle.strarr.proofs.RunLemmas.{length-play_replies, length-contents_of, len
 use Rattle.strarr.proofs.top.answer.Goals as goal
 
 pub report-requires-clause-history : goal.report-requires-clause-history
-report-requires-clause-history c = λ task.
-    ap (calls_of task) c.in_ok-told-in-Ok.ensures.history ∙ serial_is_history c.in-Ok.script.tasks task
+report-requires-clause-history c = record {
+  calls = λ task. ap (calls_of task) c.in_ok-told-in-Ok.ensures.history ∙ (serial_is_history c.in-Ok.script.tasks).calls task;
+  marked = tt;
+}
 
 pub report-requires-clause-replies : goal.report-requires-clause-replies
 report-requires-clause-replies c =

@@ -46,9 +46,9 @@ returns-clause-room c =
     let cursor : cursor_of s.arena.extents ≡ cursor_of now.layout.extents = sym (cursor-decoded s.arena.extents) ∙ ap (λ (x : Stored). cursor_of x.layout.extents) c.self.view_is in
     let bytes = c.needs-bytes.ensures.bytes ∙ ap (λ ps. all_bytes now.layout.states (puts_from first ps)) items in
     let keys = c.needs-bytes.ensures.keys ∙ ap (λ ps. all_keys now.layout.states (puts_from first ps)) items in
-    let it = plan-room now.layout first c.args.places.now c.args.values.now _ _ s.arena _ c.reserve-2.new.self.spare c.requires.distinct bytes keys cursor c.in_ok-reserve.ensures.size c.in_ok-reserve-2.ensures.room in
+    let it = plan-room now.layout first c.args.places.now c.args.values.now _ _ s.arena c.reserve-2.new.self.texts _ c.reserve-2.new.self.spare c.requires.distinct bytes keys cursor c.in_ok-reserve.ensures.size c.in_ok-reserve-2.ensures.room in
     let plan_is : puts_from first (zip c.args.places.now c.args.values.now) ≡ puts_of now.layout.lengths c.new.result =
     ap (λ n. puts_from n (zip c.args.places.now c.args.values.now)) c.first.ensures.first
     ∙ ap (λ (p : Planned). puts_of now.layout.lengths p) (sym (c.new.ensures ∙ ap (λ ps. let x : Planned = record { array = c.args.array; puts = ps } in x) c.in_ok-puts.ensures)) in
     subst (HasRoom _) plan_is
-    (subst (λ (l : Layout). HasRoom (record { layout = l; size = c.reserve.new.self.size; spare = c.reserve-2.new.self.spare }) (puts_from first (zip c.args.places.now c.args.values.now))) (sym layout) it)
+    (subst (λ (l : Layout). HasRoom (record { layout = l; keys = c.reserve-2.new.self.texts; size = c.reserve.new.self.size; spare = c.reserve-2.new.self.spare }) (puts_from first (zip c.args.places.now c.args.values.now))) (sym layout) it)
