@@ -3,6 +3,7 @@ ghost use Rattle.std.specs.Prelude.{◌≤◌};
 use super::*;
 use sa_base::{MemSink, MemSource, Memory};
 use std::alloc::Global;
+use std::process::Abort;
 use std::test::Fail;
 
 /// What the program answers and writes for these words and this input, with enough room.
@@ -34,8 +35,23 @@ fn serial(alloc: Global, input: &[u8]) -> Result<(Status, Vec<u8>), Memory> {
     outcome(alloc, &["serial"], input, 65_536, &[], 1_048_576, &[])
 }
 
+/// Each script of a table has this status, and these bytes.
+fn answers(
+    rt: &impl Abort,
+    alloc: Global,
+    want: Status,
+    cases: &[(&[u8], &[u8])],
+) -> Result<(), Memory> {
+    for (script, bytes) in cases {
+        let (status, written) = serial(alloc, script)?;
+        assert_eq!(rt; status, want, "at {script:?}");
+        assert_eq!(rt; written.as_slice(), *bytes, "at {script:?}");
+    }
+    Ok(())
+}
+
 #[test]
-fn scripts_have_their_reports(rt: HostRuntime) -> Result<(), Fail> {
+fn scripts_have_their_reports(rt: HostRuntime) -> Result<(), Memory> {
     let cases: [(&[u8], &[u8]); 5] = [
         (b"end\n", b"report 1\nhistory\nmarked\nend\n"),
         (
@@ -55,16 +71,11 @@ fn scripts_have_their_reports(rt: HostRuntime) -> Result<(), Fail> {
             b"report 1\nhistory 0:0 0:1 0:2\nmarked\ntask 0\n0 done\n1 refused 1 1\n2 shown (\"\",\"\")\narray a (\"p\",\"q\")\narray b (\"\",\"\")\nstats d cursor 0 live 0 dead 0 outside 0\nend\n",
         ),
     ];
-    for (script, report) in cases {
-        let (status, written) = serial(rt.alloc(), script)?;
-        assert_eq!(rt; status, Status::Done, "at {script:?}");
-        assert_eq!(rt; written.as_slice(), report, "at {script:?}");
-    }
-    Ok(())
+    answers(&rt, rt.alloc(), Status::Done, &cases)
 }
 
 #[test]
-fn texts_lie_where_the_layout_puts_them(rt: HostRuntime) -> Result<(), Fail> {
+fn texts_lie_where_the_layout_puts_them(rt: HostRuntime) -> Result<(), Memory> {
     let cases: [(&[u8], &[u8]); 3] = [
         (
             b"descr d absent\narray b d str 2\ntask\nset b (\"abcdefghijklmno\",\"abcdefghijklmnop\")\nend\n",
@@ -79,16 +90,11 @@ fn texts_lie_where_the_layout_puts_them(rt: HostRuntime) -> Result<(), Fail> {
             b"report 1\nhistory 0:0 0:1 0:2 0:3\nmarked\ntask 0\n0 done\n1 done\n2 done\n3 done\narray a (\"x\")\narray b (\"abcdefghijklmnop\")\narray c (\"abcdefghijklmnop\")\nstats d cursor 34 live 17 dead 17 outside 0\nstats e cursor 17 live 17 dead 0 outside 0\nend\n",
         ),
     ];
-    for (script, report) in cases {
-        let (status, written) = serial(rt.alloc(), script)?;
-        assert_eq!(rt; status, Status::Done, "at {script:?}");
-        assert_eq!(rt; written.as_slice(), report, "at {script:?}");
-    }
-    Ok(())
+    answers(&rt, rt.alloc(), Status::Done, &cases)
 }
 
 #[test]
-fn what_is_no_script_has_its_fault(rt: HostRuntime) -> Result<(), Fail> {
+fn what_is_no_script_has_its_fault(rt: HostRuntime) -> Result<(), Memory> {
     let cases: [(&[u8], &[u8]); 9] = [
         (b"", b"fault 11 line 0\n"),
         (b"descr d absent coerce\n", b"fault 11 line 1\n"),
@@ -106,12 +112,7 @@ fn what_is_no_script_has_its_fault(rt: HostRuntime) -> Result<(), Fail> {
         ),
         (b"end\nend\n\xff\n", b"fault 3 line 2\n"),
     ];
-    for (script, line) in cases {
-        let (status, written) = serial(rt.alloc(), script)?;
-        assert_eq!(rt; status, Status::Script, "at {script:?}");
-        assert_eq!(rt; written.as_slice(), line, "at {script:?}");
-    }
-    Ok(())
+    answers(&rt, rt.alloc(), Status::Script, &cases)
 }
 
 #[test]
