@@ -1,3 +1,4 @@
+pub mod Adapters
 pub mod Deeds
 pub mod Fakes
 pub mod Items

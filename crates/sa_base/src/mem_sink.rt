@@ -1,6 +1,6 @@
-ghost use Rattle.std.specs.Prelude.{◌≡◌, ◌≤◌, ◌<◌, length, Some, [], IfOk};
+ghost use Rattle.std.specs.Prelude.{◌≡◌, ◌≤◌, ◌<◌, length, [], IfOk};
 ghost use Rattle.sa_base.specs.Streams.{Writes};
-ghost use Rattle.sa_base.specs.Fakes.{slate_took, slate_after};
+ghost use Rattle.sa_base.specs.Fakes.{told_by_sink, mem_took, mem_sink_after};
 
 use crate::memory::Memory;
 use crate::sink::{Sink, Took};
@@ -21,9 +21,9 @@ pub struct MemSink {
 
 impl Model for MemSink {
     ghost use Rattle.std.specs.Prelude.{◌≤◌, ◌+◌, vec_len, vec_capacity};
-    ghost use Rattle.sa_base.specs.Fakes.{Slate};
+    ghost use Rattle.sa_base.specs.Fakes.{MemSinkValue};
 
-    ghost Value = { Slate };
+    ghost Value = { MemSinkValue };
 
     ghost view = { λ s. record {
       written = s.bytes.items;
@@ -63,16 +63,14 @@ impl MemSink {
 }
 
 impl Sink for MemSink {
-    ghost written = { λ s. Some s.written };
-
-    ghost faults = { λ s. s.faults };
+    ghost stream = { told_by_sink };
 
     fn write(&mut self, from: &[u8]) -> Took
         requires { 0 < length from.now }
-        ensures writes { Writes (Some self.old.written) (Some self.new.written) self.old.faults self.new.faults from.now result }
+        ensures writes { Writes (told_by_sink self.old) (told_by_sink self.new) from.now result }
         ensures kept { self.old.faults ≤ self.new.faults }
-        ensures answer { result ≡ slate_took self.old (length from.now) }
-        ensures after { self.new ≡ slate_after self.old from.now result }
+        ensures answer { result ≡ mem_took self.old (length from.now) }
+        ensures after { self.new ≡ mem_sink_after self.old from.now result }
     {
         let call = self.calls;
         self.calls = call.saturating_add(1);

@@ -1,6 +1,6 @@
-ghost use Rattle.std.specs.Prelude.{◌≡◌, ◌≤◌, ◌<◌, length, Some};
+ghost use Rattle.std.specs.Prelude.{◌≡◌, ◌≤◌, ◌<◌, length};
 ghost use Rattle.sa_base.specs.Streams.{Reads};
-ghost use Rattle.sa_base.specs.Fakes.{tape_got, tape_after};
+ghost use Rattle.sa_base.specs.Fakes.{told_by_source, mem_got, mem_source_after};
 
 use crate::source::{Got, Source};
 use std::marker::Model;
@@ -19,9 +19,9 @@ pub struct MemSource {
 
 impl Model for MemSource {
     ghost use Rattle.std.specs.Prelude.{◌≤◌, drop, vec_len};
-    ghost use Rattle.sa_base.specs.Fakes.{Tape};
+    ghost use Rattle.sa_base.specs.Fakes.{MemSourceValue};
 
-    ghost Value = { Tape };
+    ghost Value = { MemSourceValue };
 
     ghost view = { λ s. record {
       left = drop s.place s.bytes.items;
@@ -53,16 +53,14 @@ impl MemSource {
 }
 
 impl Source for MemSource {
-    ghost left = { λ s. Some s.left };
-
-    ghost faults = { λ s. s.faults };
+    ghost stream = { told_by_source };
 
     fn read(&mut self, to: &mut [u8]) -> Got
         requires { 0 < length to.old }
-        ensures reads { Reads (Some self.old.left) (Some self.new.left) self.old.faults self.new.faults to.new result }
+        ensures reads { Reads (told_by_source self.old) (told_by_source self.new) to.new result }
         ensures kept { self.old.faults ≤ self.new.faults }
-        ensures answer { result ≡ tape_got self.old (length to.old) }
-        ensures after { self.new ≡ tape_after self.old result }
+        ensures answer { result ≡ mem_got self.old (length to.old) }
+        ensures after { self.new ≡ mem_source_after self.old result }
     {
         let call = self.calls;
         self.calls = call.saturating_add(1);

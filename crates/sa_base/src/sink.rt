@@ -1,5 +1,5 @@
-ghost use Rattle.std.specs.Prelude.{ℕ, List, Option, ◌<◌, ◌≤◌, length};
-ghost use Rattle.sa_base.specs.Streams.{Writes};
+ghost use Rattle.std.specs.Prelude.{◌<◌, ◌≤◌, length};
+ghost use Rattle.sa_base.specs.Streams.{Stream, Writes};
 
 /// The answer of a write.
 #[derive(Clone, Copy, Debug, PartialEq, Eq)]
@@ -12,16 +12,14 @@ pub enum Took {
 
 /// Where bytes are written to.
 pub trait Sink {
-    /// The bytes that were written, where the sink tells them.
-    ghost written: { Self → Option (List ℕ) };
+    /// The bytes that were written, where the sink tells them, and how many faults there were. The
+    /// count never falls, and at 2^64 - 1 it stands still.
+    ghost stream: { Self → Stream };
 
-    /// How many faults there were. The count never falls, and at 2^64 - 1 it stands still.
-    ghost faults: { Self → ℕ };
-
-    /// Writes the front of `from`, in a piece of any length. A write fails only where the count of
-    /// faults rises.
+    /// Writes the front of `from`, in a piece of any length. The count of faults rises where a write
+    /// fails and stays otherwise.
     fn write(&mut self, from: &[u8]) -> Took
         requires { 0 < length from.now }
-        ensures writes { Writes (written self.old) (written self.new) (faults self.old) (faults self.new) from.now result }
-        ensures kept { faults self.old ≤ faults self.new };
+        ensures writes { Writes (stream self.old) (stream self.new) from.now result }
+        ensures kept { (stream self.old).faults ≤ (stream self.new).faults };
 }

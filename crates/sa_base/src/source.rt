@@ -1,5 +1,5 @@
-ghost use Rattle.std.specs.Prelude.{ℕ, List, Option, ◌<◌, ◌≤◌, length};
-ghost use Rattle.sa_base.specs.Streams.{Reads};
+ghost use Rattle.std.specs.Prelude.{◌<◌, ◌≤◌, length};
+ghost use Rattle.sa_base.specs.Streams.{Stream, Reads};
 
 /// The answer of a read.
 #[derive(Clone, Copy, Debug, PartialEq, Eq)]
@@ -14,16 +14,14 @@ pub enum Got {
 
 /// Where bytes are read from.
 pub trait Source {
-    /// The bytes that are left, where the source tells them.
-    ghost left: { Self → Option (List ℕ) };
+    /// The bytes that are left, where the source tells them, and how many faults there were. The count
+    /// never falls, and at 2^64 - 1 it stands still.
+    ghost stream: { Self → Stream };
 
-    /// How many faults there were. The count never falls, and at 2^64 - 1 it stands still.
-    ghost faults: { Self → ℕ };
-
-    /// Reads into the front of `to`, in a piece of any length. A read fails only where the count of
-    /// faults rises, and the end comes only where nothing is left.
+    /// Reads into the front of `to`, in a piece of any length. The count of faults rises where a read
+    /// fails and stays otherwise, and the end comes only where nothing is left.
     fn read(&mut self, to: &mut [u8]) -> Got
         requires { 0 < length to.old }
-        ensures reads { Reads (left self.old) (left self.new) (faults self.old) (faults self.new) to.new result }
-        ensures kept { faults self.old ≤ faults self.new };
+        ensures reads { Reads (stream self.old) (stream self.new) to.new result }
+        ensures kept { (stream self.old).faults ≤ (stream self.new).faults };
 }

@@ -1,7 +1,10 @@
 use crate::{
-    FreeGate, Gate, Got, MemSink, MemSource, Sequence, Sink, Source, StdSink, StdSource, Took,
+    FreeGate, Gate, Got, MemSink, MemSource, ReaderSource, Sequence, Sink, Source, StdSink,
+    StdSource, Took, WriterSink,
 };
 use std::alloc::{AllocError, Global};
+use std::io;
+use std::io::{Error, ErrorKind, Read, Write};
 use std::test::Fail;
 
 /// The bytes that sources give and sinks take.
@@ -133,6 +136,74 @@ fn sequence_keeps_its_items(rt: HostRuntime) -> Result<(), Fail> {
     let mut none: Sequence<u16> = Sequence::new(rt.alloc());
     assert_eq!(rt; none.pop(), None);
     Ok(())
+}
+
+/// A reader and a writer whose every other call fails, from the first on; between them it gives one
+/// byte, or takes none.
+#[derive(Drop)]
+struct EveryOther {
+    fails: bool,
+}
+
+impl EveryOther {
+    /// Whether this call fails; the next one then does not, and the other way round.
+    fn turn(&mut self) -> io::Result<()> {
+        self.fails = !self.fails;
+        if self.fails {
+            Ok(())
+        } else {
+            Err(Error::from(ErrorKind::BrokenPipe))
+        }
+    }
+}
+
+impl Read for EveryOther {
+    fn read(&mut self, to: &mut [u8]) -> io::Result<usize> {
+        self.turn()?;
+        if to.is_empty() {
+            return Ok(0);
+        }
+        to[0] = b'x';
+        Ok(1)
+    }
+}
+
+impl Write for EveryOther {
+    fn write(&mut self, _from: &[u8]) -> io::Result<usize> {
+        self.turn()?;
+        Ok(0)
+    }
+
+    fn flush(&mut self) -> io::Result<()> {
+        Ok(())
+    }
+}
+
+#[test]
+fn reader_as_source(rt: HostRuntime) {
+    let mut source = ReaderSource::new(&BYTES[..5]);
+    let mut buffer = [0u8; 3];
+    assert_eq!(rt; source.read(&mut buffer), Got::Bytes(3));
+    assert_eq!(rt; buffer, *b"012");
+    assert_eq!(rt; source.read(&mut buffer), Got::Bytes(2));
+    assert_eq!(rt; buffer, *b"342");
+    assert_eq!(rt; source.read(&mut buffer), Got::End);
+    let mut failing = ReaderSource::new(EveryOther { fails: true });
+    assert_eq!(rt; failing.read(&mut buffer), Got::Failed);
+    assert_eq!(rt; failing.read(&mut buffer), Got::Bytes(1));
+    assert_eq!(rt; failing.read(&mut buffer), Got::Failed);
+}
+
+#[test]
+fn writer_as_sink(rt: HostRuntime) {
+    let mut bytes = Vec::new(rt.alloc());
+    let mut sink = WriterSink::new(&mut bytes);
+    assert_eq!(rt; sink.write(b"ab"), Took::Bytes(2));
+    assert_eq!(rt; sink.write(b"c"), Took::Bytes(1));
+    assert_eq!(rt; bytes.as_slice(), b"abc".as_slice());
+    let mut failing = WriterSink::new(EveryOther { fails: true });
+    assert_eq!(rt; failing.write(b"a"), Took::Failed);
+    assert_eq!(rt; failing.write(b"a"), Took::Failed);
 }
 
 #[test]

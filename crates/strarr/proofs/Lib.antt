@@ -1,5 +1,6 @@
 pub mod CallLemmas
 pub mod DecideLemmas
+pub mod EndingLemmas
 pub mod HeldLemmas
 pub mod PieceLemmas
 pub mod PlayLemmas

@@ -1,92 +1,57 @@
 -- What a run has read and written, by the status that it returns: the causes of each status.
-use Rattle.std.specs.Prelude.{◌≡◌, ◌⊎◌, ℕ, ◌+◌, ◌<◌, ◌≤◌, List, [], ◌++◌, length, take, Option, Some, option_map, IfSome}
-use Rattle.sa_base.specs.Streams.{Rose}
-use Rattle.strarr.specs.Outputs.{answer_of, output_of, most_script_bytes}
-use Rattle.strarr.specs.declared.intake.Intake.{Intake}
-use Rattle.strarr.specs.declared.intake.Intake.TheVariants as intake
+use Rattle.std.specs.Prelude.{◌≡◌, ◌⊎◌, ℕ, ◌+◌, ◌≤◌, List, length, take, IfSome, Result, MatchResult}
+use Rattle.std.specs.Io.KnownBytes.{Appends, Consumes, IsAtEnd}
+use Rattle.sa_base.specs.Streams.{Stream, Rose, StreamTakes, StreamGains}
+use Rattle.strarr.specs.Outputs.{answer_of, most_script_bytes}
 use Rattle.strarr.specs.declared.status.Status.{Status}
 use Rattle.strarr.specs.declared.status.Status.TheVariants as status
 
--- the source and the sink before and after a run, where they tell their bytes, with their counts of faults
-pub record Streams : Type 0 where
-  pub left_before : Option (List ℕ)
-  pub left_after : Option (List ℕ)
-  pub read_faults_before : ℕ
-  pub read_faults_after : ℕ
-  pub written_before : Option (List ℕ)
-  pub written_after : Option (List ℕ)
-  pub write_faults_before : ℕ
-  pub write_faults_after : ℕ
+-- the whole input was read, which is no longer than a script may be, and no read failed
+pub record ReadsWhole (source source' : Stream) (input : List ℕ) : Type 0 where
+  pub taken : StreamTakes source source' input
+  pub ended : IsAtEnd source'.bytes
+  pub limit : length input ≤ most_script_bytes
 
--- these bytes were written behind those before
-abbrev pub Writes : Streams → List ℕ → Type 0
-Writes s bytes = s.written_after ≡ option_map (λ before. before ++ bytes) s.written_before
+-- Why reading stopped before the end, behind this many bytes: a read failed, or there was no memory, and fewer bytes were taken than a script may have and one more; or as many were.
+abbrev pub StopsBehind : ℕ → Stream → Stream → Status → Type 0
+StopsBehind n source source' status.ReadFault = (part : List ℕ) × Consumes source.bytes source'.bytes part × (n + length part ≤ most_script_bytes) × Rose source.faults source'.faults
+StopsBehind n source source' status.NoMemory = (part : List ℕ) × StreamTakes source source' part × (n + length part ≤ most_script_bytes)
+StopsBehind n source source' status.LongScript = (part : List ℕ) × StreamTakes source source' part × (n + length part ≡ most_script_bytes + 1)
+StopsBehind n source source' status.Done = ⊥
+StopsBehind n source source' status.Words = ⊥
+StopsBehind n source source' status.Script = ⊥
+StopsBehind n source source' status.WriteFault = ⊥
 
-abbrev pub WritesNothing : Streams → Type 0
-WritesNothing s = s.written_after ≡ s.written_before
+-- a write failed behind a front of these bytes
+abbrev pub BreaksOff : Stream → Stream → List ℕ → Type 0
+BreaksOff sink sink' bytes = (count : ℕ) × Appends sink.bytes sink'.bytes (take count bytes) × Rose sink.faults sink'.faults
 
--- fewer bytes were taken from the source than a script may have and one more
-abbrev pub TakesFewer : Option (List ℕ) → Option (List ℕ) → Type 0
-TakesFewer before after = IfSome before (λ input. IfSome after (λ rest. length input < length rest + (most_script_bytes + 1)))
+-- the whole input was read, its output has this status, and the output's bytes were written
+abbrev pub Answers : (List ℕ → Status × List ℕ) → Status → Stream → Stream → Stream → Stream → Type 0
+Answers output stat source source' sink sink' = (input : List ℕ) × ReadsWhole source source' input × ((output input).0 ≡ stat) × StreamGains sink sink' (output input).1
 
--- the whole input was read, it is within its limit, and the definition gives this status and these bytes written
-abbrev pub Answers : List (List ℕ) → Status → Streams → Type 0
-Answers words stat s = IfSome s.left_before (λ input. (s.left_after ≡ Some []) × (length input ≤ most_script_bytes) × ((output_of words input).0 ≡ stat) × Writes s (output_of words input).1)
+-- What was read and written, by the status, for a program whose output for an input is a status and bytes.
+abbrev pub Ends : (List ℕ → Status × List ℕ) → Stream → Stream → Stream → Stream → Status → Type 0
+Ends output source source' sink sink' status.Done = Answers output status.Done source source' sink sink'
+Ends output source source' sink sink' status.Words = (source' ≡ source) × (sink' ≡ sink)
+Ends output source source' sink sink' status.Script = Answers output status.Script source source' sink sink'
+Ends output source source' sink sink' status.ReadFault = StopsBehind 0 source source' status.ReadFault × (sink' ≡ sink)
+Ends output source source' sink sink' status.WriteFault = (input : List ℕ) × ReadsWhole source source' input × BreaksOff sink sink' (output input).1
+Ends output source source' sink sink' status.NoMemory = StopsBehind 0 source source' status.NoMemory × (sink' ≡ sink)
+Ends output source source' sink sink' status.LongScript = StopsBehind 0 source source' status.LongScript × (sink' ≡ sink)
 
--- the whole input was read, a write failed, and a front of the definition's bytes was written
-abbrev pub Breaks : List (List ℕ) → Streams → Type 0
-Breaks words s = Rose s.write_faults_before s.write_faults_after × IfSome s.left_before (λ input. (s.left_after ≡ Some []) × (length input ≤ most_script_bytes) × ((count : ℕ) × Writes s (take count (output_of words input).1)))
+-- Where no count of faults rose, the status is the output's, or there was no memory.
+abbrev pub Completes : (List ℕ → Status × List ℕ) → Stream → Stream → Stream → Stream → Status → Type 0
+Completes output source source' sink sink' stat =
+    (Rose source.faults source'.faults → ⊥) → (Rose sink.faults sink'.faults → ⊥)
+    → IfSome source.bytes (λ input. (stat ≡ (output input).0) ⊎ (stat ≡ status.NoMemory))
 
--- one byte more than a script may have was taken, and nothing was written
-abbrev pub Overflows : Streams → Type 0
-Overflows s = IfSome s.left_before (λ input. (rest : List ℕ) × (s.left_after ≡ Some rest) × (length input ≡ length rest + (most_script_bytes + 1))) × WritesNothing s
+-- what writing bytes gives: they were written, or a write failed
+abbrev pub OutputWritten : Stream → Stream → List ℕ → Result (Unit {0}) Status → Type 0
+OutputWritten sink sink' bytes written = MatchResult written (λ _. StreamGains sink sink' bytes) (λ stat. (stat ≡ status.WriteFault) × BreaksOff sink sink' bytes)
 
--- What was read and written, by the status.
-abbrev pub Ends : List (List ℕ) → Streams → Status → Type 0
-Ends words s status.Done = Answers words status.Done s
-Ends words s status.Words = (s.left_after ≡ s.left_before) × WritesNothing s
-Ends words s status.Script = Answers words status.Script s
-Ends words s status.ReadFault = Rose s.read_faults_before s.read_faults_after × WritesNothing s × TakesFewer s.left_before s.left_after
-Ends words s status.WriteFault = Breaks words s
-Ends words s status.NoMemory = WritesNothing s × TakesFewer s.left_before s.left_after
-Ends words s status.LongScript = Overflows s
-
--- Where no count of faults rose, the status is the definition's, or there was no memory.
-abbrev pub Completes : List (List ℕ) → Streams → Status → Type 0
-Completes words s stat =
-    (Rose s.read_faults_before s.read_faults_after → ⊥) → (Rose s.write_faults_before s.write_faults_after → ⊥)
-    → IfSome s.left_before (λ input. (stat ≡ (output_of words input).0) ⊎ (stat ≡ status.NoMemory))
-
--- what reading the input found, by the answer
-abbrev pub Reads : Option (List ℕ) → Option (List ℕ) → ℕ → ℕ → Intake → Type 0
-Reads before after faults faults_after (intake.Whole text) = IfSome before (λ input. (after ≡ Some []) × (length input ≤ most_script_bytes) × (text.items ≡ input))
-Reads before after faults faults_after intake.Long = IfSome before (λ input. (rest : List ℕ) × (after ≡ Some rest) × (length input ≡ length rest + (most_script_bytes + 1)))
-Reads before after faults faults_after intake.Failed = Rose faults faults_after × TakesFewer before after
-Reads before after faults faults_after intake.NoMemory = TakesFewer before after
-
--- the source and the sink by their parts
-abbrev pub streams : Option (List ℕ) → Option (List ℕ) → ℕ → ℕ → Option (List ℕ) → Option (List ℕ) → ℕ → ℕ → Streams
-streams left_before left_after read_faults_before read_faults_after written_before written_after write_faults_before write_faults_after = record {
-  left_before = left_before;
-  left_after = left_after;
-  read_faults_before = read_faults_before;
-  read_faults_after = read_faults_after;
-  written_before = written_before;
-  written_after = written_after;
-  write_faults_before = write_faults_before;
-  write_faults_after = write_faults_after;
-}
-
--- the answer to an input was written, with the status of the definition
-abbrev pub Delivers : List ℕ → Option (List ℕ) → Option (List ℕ) → Status → Type 0
-Delivers input before after stat = ((answer_of input).0 ≡ stat) × (after ≡ option_map (λ front. front ++ (answer_of input).1) before)
-
--- what answering an input wrote, by the status
-abbrev pub Responds : List ℕ → Option (List ℕ) → Option (List ℕ) → ℕ → ℕ → Status → Type 0
-Responds input before after faults faults_after status.Done = Delivers input before after status.Done
-Responds input before after faults faults_after status.Words = ⊥
-Responds input before after faults faults_after status.Script = Delivers input before after status.Script
-Responds input before after faults faults_after status.ReadFault = ⊥
-Responds input before after faults faults_after status.WriteFault = Rose faults faults_after × ((count : ℕ) × (after ≡ option_map (λ front. front ++ take count (answer_of input).1) before))
-Responds input before after faults faults_after status.NoMemory = after ≡ before
-Responds input before after faults faults_after status.LongScript = ⊥
+-- what answering an input wrote: its output, with the status of the definition; a front of it; or nothing
+abbrev pub Responds : List ℕ → Stream → Stream → Result Status Status → Type 0
+Responds input sink sink' response = MatchResult response
+    (λ stat. ((answer_of input).0 ≡ stat) × StreamGains sink sink' (answer_of input).1)
+    (λ stat. ((stat ≡ status.WriteFault) × BreaksOff sink sink' (answer_of input).1) ⊎ ((stat ≡ status.NoMemory) × (sink' ≡ sink)))

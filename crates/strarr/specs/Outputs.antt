@@ -29,3 +29,13 @@ output_for (Some command.Serial) input = if nat_lt most_script_bytes (length inp
 
 abbrev pub output_of : List (List ℕ) → List ℕ → Status × List ℕ
 output_of words input = output_for (command_of words) input
+
+-- the number that the program exits with: this project's own
+abbrev pub number_of_status : Status → ℕ
+number_of_status status.Done = 0
+number_of_status status.Words = 2
+number_of_status status.Script = 3
+number_of_status status.ReadFault = 4
+number_of_status status.WriteFault = 5
+number_of_status status.NoMemory = 6
+number_of_status status.LongScript = 7

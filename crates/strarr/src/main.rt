@@ -3,7 +3,6 @@
 #![tactic(auto)]
 
 mod deciding;
-mod intake;
 mod laws;
 mod runner;
 mod status;
@@ -19,7 +18,7 @@ use std::env;
 use std::io::ErrorKind;
 use std::process::ExitCode;
 pub use top::run_still;
-pub use words::{Command, read_words};
+pub use words::{Command, read_words, words_after_name};
 
 #[cfg(test)]
 mod tests;
@@ -29,18 +28,17 @@ const NO_WORD: u8 = 10;
 
 /// The words after the program's name, or the exit number where there are none to be had.
 fn words_of(rt: &HostRuntime) -> Result<Vec<String>, u8> {
-    let mut words = Vec::new(rt.alloc());
     let args = match env::args(rt) {
         Ok(args) => args,
-        Err(error) if error.kind() == ErrorKind::OutOfMemory => return Err(Status::NoMemory as u8),
+        Err(error) if error.kind() == ErrorKind::OutOfMemory => {
+            return Err(Status::NoMemory.number());
+        }
         Err(_) => return Err(NO_WORD),
     };
-    for word in args.skip(1) {
-        if words.push(word).is_err() {
-            return Err(Status::NoMemory as u8);
-        }
+    match args.collect(rt.alloc()) {
+        Ok(all) => Ok(words_after_name(all)),
+        Err(_) => Err(Status::NoMemory.number()),
     }
-    Ok(words)
 }
 
 fn main(rt: HostRuntime) -> ExitCode {
@@ -51,5 +49,5 @@ fn main(rt: HostRuntime) -> ExitCode {
     let mut source = StdSource::new(rt.stdin());
     let mut sink = StdSink::new(rt.stdout());
     let status = run_still(rt.alloc(), words.as_slice(), &mut source, &mut sink);
-    ExitCode::from(status as u8)
+    ExitCode::from(status.number())
 }

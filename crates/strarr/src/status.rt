@@ -1,3 +1,8 @@
+ghost use Rattle.std.specs.Prelude.{◌≡◌};
+ghost use Rattle.strarr.specs.Outputs.{number_of_status};
+
+use sa_base::Memory;
+
 /// How a run ends. `main` exits with its number.
 #[derive(Clone, Copy, Debug, PartialEq, Eq)]
 pub enum Status {
@@ -15,4 +20,24 @@ pub enum Status {
     NoMemory = 6,
     /// The input is longer than a script may be.
     LongScript = 7,
+}
+
+impl Status {
+    /// The number that the program exits with.
+    pub fn number(self) -> u8
+        ensures { result ≡ number_of_status self }
+    {
+        self as u8
+    }
+}
+
+impl From<Memory> for Status {
+    ghost use Rattle.std.specs.Prelude.{◌≡◌};
+    ghost use Rattle.strarr.specs.declared.status.Status.TheVariants.{NoMemory};
+
+    ghost from_gives = { λ _ status. status ≡ NoMemory };
+
+    fn from(_memory: Memory) -> Status {
+        Status::NoMemory
+    }
 }

@@ -1,4 +1,4 @@
-ghost use Rattle.std.specs.Prelude.{◌≡◌, map, string_bytes};
+ghost use Rattle.std.specs.Prelude.{◌≡◌, drop, map, string_bytes};
 ghost use Rattle.strarr.specs.Outputs.{command_of};
 
 use sa_lines::is_word;
@@ -18,4 +18,15 @@ pub fn read_words(words: &[String]) -> Option<Command>
         [word] if is_word(b"serial", word.as_bytes()) => Some(Command::Serial),
         _ => None,
     }
+}
+
+/// The words after the program's name, of all words of the command line. It takes no memory.
+pub fn words_after_name(mut all: Vec<String>) -> Vec<String>
+    ensures { result.items ≡ drop 1 all.items }
+{
+    if all.is_empty() {
+        return all;
+    }
+    all.remove(0);
+    all
 }
