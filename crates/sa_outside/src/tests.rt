@@ -31,7 +31,9 @@ fn texts_are_swapped_and_freed(rt: HostRuntime) -> Result<(), Fail> {
     let kept = texts.put(SharedBytes::from_slice(alloc, b"kept")?);
     let key = texts.put(SharedBytes::from_slice(alloc, b"old")?);
     assert_eq!(rt;
-        texts.swap(key, SharedBytes::from_slice(alloc, b"new")?).as_slice(),
+        texts
+            .swap(key, SharedBytes::from_slice(alloc, b"new")?)
+            .as_slice(),
         b"old".as_slice()
     );
     assert_eq!(rt; texts.get(key), Some(b"new".as_slice()));
