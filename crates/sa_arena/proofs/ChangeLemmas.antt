@@ -1,21 +1,21 @@
 -- Each change, in the terms of the code that makes it: what the fields hold after it.
-use Rattle.std.proofs.Common.{◌≡◌, ◌≤◌, ◌+◌, ◌-◌, ◌*◌, ℕ, true, false, List, [], ◌∷◌, ◌++◌, length, take, replicate, set, Some, None, sym, ap, ap₂, ◌∙◌, subst, arith}
+use Rattle.std.proofs.Common.{◌≡◌, ◌≤◌, ◌+◌, ◌-◌, ℕ, true, false, List, [], ◌∷◌, ◌++◌, length, take, replicate, set, Some, None, sym, ap, ap₂, ◌∙◌, subst, arith}
 use Rattle.std.specs.Vec.{with_items}
-use Rattle.std.proofs.lemmas.List.{with_items_is, take_all}
+use Rattle.std.proofs.lemmas.List.{with_items_is}
 use Rattle.std.specs.declared.vec.Vec.{Vec}
 use Rattle.sa_arena.specs.declared.arena.Member.{Member}
 use Rattle.sa_arena.specs.Buffers.{written}
-use Rattle.sa_arena.specs.Extents.{Region, prefix_size, extent_size, cursor_of, extent_at, start_of, number_at, with_text, extent_for, trimmed}
+use Rattle.sa_arena.specs.Extents.{Region, prefix_size, extent_size, cursor_of, extent_at, start_of, number_at, with_text, extent_for, trimmed, IsTextSize}
 use Rattle.sa_arena.specs.Images.{padded, extent_image}
 use Rattle.sa_arena.specs.Members.{Holds}
-use Rattle.sa_arena.proofs.HoldsLemmas.{Found, appended, reused, killed, grown}
+use Rattle.sa_arena.proofs.HoldsLemmas.{Found, appended, reused, killed}
 
 -- a vector's bytes after a write into the slice that it lent
 pub lent_bytes : {Z : Type 0} (v : Vec ℕ Z) (lent new : List ℕ) (s : ℕ) (t : List ℕ) → lent ≡ v.items → length lent ≡ v.len → length new ≡ length lent → new ≡ written lent s t → (with_items v new).items ≡ written v.items s t
 lent_bytes v lent new s t same len kept is = with_items_is v new (kept ∙ len) ∙ is ∙ ap (λ (bs : List ℕ). written bs s t) same
 
-pub more_places : {r : Region} {t : List Member} {b : List ℕ} {c l p : ℕ} → Holds r t b c l p → (p' : ℕ) → p ≤ p' → Holds r t b c l p'
-more_places h p' more = let room = h.room in record { table_is = h.table_is; sized = h.sized; trim = h.trim; cursor_is = h.cursor_is; live_is = h.live_is; size_is = h.size_is; within = h.within; image_is = h.image_is; room = omega arith }
+same_places : {r : Region} {t : List Member} {b : List ℕ} {c l p : ℕ} → Holds r t b c l p → (p' : ℕ) → p' ≡ p → Holds r t b c l p'
+same_places {r} {t} {b} {c} {l} h p' same = subst (Holds r t b c l) (sym same) h
 
 pub after_reuse : {r : Region} {t : List Member} {b : List ℕ} {c l p at k : ℕ} → Holds r t b c l p → Found r b c l at k → (capacity : ℕ) (u b' : List ℕ) →
     capacity ≡ (extent_at r.extents k).capacity → length u ≤ (extent_at r.extents (number_at r.extents at)).capacity → b' ≡ written b at (padded capacity u) →
@@ -39,19 +39,15 @@ after_kill {r} {t} {b} {c} {l} {p} {at} {k} h f start capacity count b' t' c' p'
     (bytes ∙ ap₂ (λ a n. written b a (replicate n 0)) starts size)
     (table ∙ ap₂ (λ a n. take count (set t k (record { at = a; capacity = n; size = 0; live = false }))) at_is cap)
     cursor (omega arith) in
-    more_places
+    same_places
     (subst (λ i. Holds (record { extents = trimmed (with_text r.extents i None); size = r.size }) t' b' c' (l - (at - start + capacity)) p) (sym f.number) done)
-    p' (omega arith)
+    p' places
 
 pub after_append : {r : Region} {t : List Member} {b : List ℕ} {c l p : ℕ} → Holds r t b c l p → (prefix : ℕ) (u b' : List ℕ) (t' : List Member) (p' : ℕ) →
-    prefix ≡ prefix_size (length u) → 16 ≤ length u → length u ≤ 65536 → cursor_of r.extents + (prefix_size (length u) + length u) ≤ r.size →
+    prefix ≡ prefix_size (length u) → IsTextSize (length u) → cursor_of r.extents + (prefix_size (length u) + length u) ≤ r.size →
     b' ≡ written b c (extent_image (extent_for u)) → t' ≡ t ++ (record { at = c + prefix; capacity = length u; size = length u; live = true }) ∷ [] → p' ≡ p →
     Holds (record { extents = r.extents ++ extent_for u ∷ []; size = r.size }) t' b' (c + prefix + length u) (l + (c + prefix + length u - c)) p'
-after_append {r} {t} {b} {c} {l} {p} h prefix u b' t' p' is least most room bytes table places =
-    let done = appended h u b' t' (c + prefix + length u) (l + (c + prefix + length u - c)) least most room bytes
+after_append {r} {t} {b} {c} {l} {p} h prefix u b' t' p' is size room bytes table places =
+    let done = appended h u b' t' (c + prefix + length u) (l + (c + prefix + length u - c)) size room bytes
     (table ∙ ap (λ n. t ++ (record { at = c + n; capacity = length u; size = length u; live = true }) ∷ []) is) (omega arith) (omega arith) in
-    more_places done p' (omega arith)
-
-pub after_reserve : {r : Region} {t : List Member} {b : List ℕ} {c l p : ℕ} → Holds r t b c l p → (n : ℕ) (more b' : List ℕ) (t' : List Member) (p' : ℕ) →
-    length b ≤ n → b' ≡ take n b ++ more → t' ≡ t → length b' ≤ 17 * p' → Holds (record { extents = r.extents; size = length b' }) t' b' c l p'
-after_reserve {b = b} h n more b' t' p' within bytes table room = grown h more b' t' p' (bytes ∙ ap (λ (x : List ℕ). x ++ more) (take_all n b within)) table room
+    same_places done p' places

@@ -4,9 +4,9 @@ use Rattle.std.proofs.lemmas.List.{take-append-drop, take-append-le, take-take, 
 use Rattle.std.proofs.lemmas.Bool.Decides.{eqb_tells}
 use Rattle.sa_arena.specs.declared.arena.Member.{Member}
 use Rattle.sa_arena.specs.Buffers.{written}
-use Rattle.sa_arena.specs.Extents.{Extent, Region, prefix_size, extent_size, cursor_of, has_text, live_size, extent_at, is_live, start_of, offset_of, number_at, with_text, extent_for, front_of, trimmed}
+use Rattle.sa_arena.specs.Extents.{Extent, Region, prefix_size, extent_size, cursor_of, has_text, live_size, extent_at, is_live, start_of, offset_of, number_at, with_text, extent_for, front_of, trimmed, IsTextSize, text_bytes}
 use Rattle.sa_arena.specs.Images.{padded, extent_image, image_of}
-use Rattle.sa_arena.specs.Members.{extent_in, region_in, member_of, table_from, IsSized, AllSized, Holds}
+use Rattle.sa_arena.specs.Members.{extent_in, region_in, member_of, table_from, least_extent, IsSized, AllSized, Holds}
 use Rattle.sa_arena.proofs.ExtentLemmas.{cursor-cons, cursor-append, number_at-offset, offset-number_at, number_at-above, number_at-below, offset-within, cursor-with_text, live-below, live-append, live-with_text, live-trimmed, trimmed-push, trimmed-with_text, trimmed-twice}
 use Rattle.sa_arena.proofs.BufferLemmas.{length_written, take-written, take-written_end}
 use Rattle.sa_arena.proofs.ImageLemmas.{length-padded, image-reused, length-extent_image, image-push, image-take, image-with_text}
@@ -89,13 +89,13 @@ text_is {r} {t} {b} h k m live e =
 
 -- one more extent
 pub appended : {r : Region} {t : List Member} {b : List ℕ} {c l p : ℕ} → Holds r t b c l p →
-    (u b' : List ℕ) (t' : List Member) (c' l' : ℕ) → 16 ≤ length u → length u ≤ 65536 → cursor_of r.extents + (prefix_size (length u) + length u) ≤ r.size →
+    (u b' : List ℕ) (t' : List Member) (c' l' : ℕ) → IsTextSize (length u) → cursor_of r.extents + (prefix_size (length u) + length u) ≤ r.size →
     b' ≡ written b c (extent_image (extent_for u)) → t' ≡ t ++ (record { at = c + prefix_size (length u); capacity = length u; size = length u; live = true }) ∷ [] →
     c' ≡ c + (prefix_size (length u) + length u) → l' ≡ l + (prefix_size (length u) + length u) →
     Holds (record { extents = r.extents ++ extent_for u ∷ []; size = r.size }) t' b' c' l' p
-appended {r} {t} {b} {c} {l} {p} h u b' t' c' l' least most room bytes table cursor live =
+appended {r} {t} {b} {c} {l} {p} h u b' t' c' l' size_of room bytes table cursor live =
     let e : Extent = extent_for u in
-    let one : IsSized e = record { least = least; most = most; fits = omega arith } in
+    let one : IsSized e = record { least = size_of.0; most = size_of.1; fits = omega arith } in
     let size = length-extent_image e one in
     let cs = cursor-append r.extents (e ∷ []) in
     let ls = live-append r.extents (e ∷ []) in
@@ -104,6 +104,7 @@ appended {r} {t} {b} {c} {l} {p} h u b' t' c' l' least most room bytes table cur
     let s_is = h.size_is in
     let same : length b' ≡ length b = ap length bytes ∙ length_written b c (extent_image e) (omega arith) in
     let room_is = h.room in
+    let most_is = h.most_places in
     record {
       table_is = table ∙ ap₂ (λ (x : List Member) (n : ℕ). x ++ member_of n e ∷ []) h.table_is (c_is ∙ sym (zero-add (cursor_of r.extents))) ∙ sym (table-push 0 r.extents e);
       sized = sized-push r.extents e h.sized one;
@@ -114,6 +115,7 @@ appended {r} {t} {b} {c} {l} {p} h u b' t' c' l' least most room bytes table cur
       within = omega arith;
       image_is = ap (take c') bytes ∙ take-written_end b c c' (extent_image e) (omega arith) (omega arith) ∙ ap (λ (i : List ℕ). i ++ extent_image e) h.image_is ∙ sym (image-push r.extents e);
       room = omega arith;
+      most_places = omega arith;
     }
 
 -- another text in the place of a live extent's
@@ -138,6 +140,7 @@ reused {r} {t} {b} {c} {l} {p} h k u b' t' live fits bytes table =
     let size : live_size e ≡ extent_size e = ap (λ v. cond v (extent_size e) 0) live in
     let l_is = h.live_is in
     let room_is = h.room in
+    let most_is = h.most_places in
     record {
       table_is = table ∙ ap₂ (λ (x : List Member) (n : ℕ). set x k (member_of n new)) h.table_is (sym (zero-add (start_of es k))) ∙ sym (table-with_text 0 es k (Some u) below);
       sized = sized-with_text es k (Some u) h.sized one;
@@ -149,6 +152,7 @@ reused {r} {t} {b} {c} {l} {p} h k u b' t' live fits bytes table =
       image_is = ap (take c) bytes ∙ take-written b c (offset_of es k) (padded e.capacity u) (omega arith) in_buffer
           ∙ ap (λ (i : List ℕ). written i (offset_of es k) (padded e.capacity u)) h.image_is ∙ sym (image-reused es k u h.sized below live was fits);
       room = omega arith;
+      most_places = omega arith;
     }
 
 start-with_text : (es : List Extent) (k : ℕ) (t : Option (List ℕ)) (n : ℕ) → start_of (with_text es k t) n ≡ start_of es n
@@ -191,6 +195,7 @@ killed {r} {t} {b} {c} {l} {p} h k n b' t' c' l' live count left bytes table cur
     let size : live_size e ≡ extent_size e = ap (λ v. cond v (extent_size e) 0) live in
     let l_is = h.live_is in
     let room_is = h.room in
+    let most_is = h.most_places in
     let starts = start-with_text es k None n in
     let back = start-most es n in
     let sized = sized-with_text es k None h.sized one in
@@ -208,12 +213,13 @@ killed {r} {t} {b} {c} {l} {p} h k n b' t' c' l' live count left bytes table cur
       within = omega arith;
       image_is = sym (take-take c' c b' (omega arith)) ∙ ap (take c') image ∙ ap (λ m. take m (image_of dead)) (cursor ∙ sym starts) ∙ sym (image-take dead n sized) ∙ ap image_of left;
       room = omega arith;
+      most_places = omega arith;
     }
 
 -- more bytes behind the extents
 pub grown : {r : Region} {t : List Member} {b : List ℕ} {c l p : ℕ} → Holds r t b c l p →
-    (more b' : List ℕ) (t' : List Member) (p' : ℕ) → b' ≡ b ++ more → t' ≡ t → length b' ≤ 17 * p' → Holds (record { extents = r.extents; size = length b' }) t' b' c l p'
-grown {r} {t} {b} {c} h more b' t' p' bytes table room =
+    (more b' : List ℕ) (t' : List Member) (p' : ℕ) → b' ≡ b ++ more → t' ≡ t → length b' ≤ least_extent * p' → least_extent * p' ≤ length b' + least_extent → Holds (record { extents = r.extents; size = length b' }) t' b' c l p'
+grown {r} {t} {b} {c} h more b' t' p' bytes table room most =
     let n = ap length bytes ∙ length-append b more in
     let in_buffer = h.within in
     record {
@@ -226,17 +232,18 @@ grown {r} {t} {b} {c} h more b' t' p' bytes table room =
       within = omega arith;
       image_is = ap (take c) bytes ∙ take-append-le c b more in_buffer ∙ h.image_is;
       room = room;
+      most_places = most;
     }
 
--- an extent has at least 17 bytes, so the table has a place where the buffer has room for one more
-pub table_least : {r : Region} {t : List Member} {b : List ℕ} {c l p : ℕ} → Holds r t b c l p → 17 * length t ≤ c
+-- the extents have their least bytes each, so the table has a place where the buffer has room for one more
+pub table_least : {r : Region} {t : List Member} {b : List ℕ} {c l p : ℕ} → Holds r t b c l p → least_extent * length t ≤ c
 table_least {r} h =
     let least = cursor-least r.extents h.sized in
     let n = length_is h in
     let c_is = h.cursor_is in
     omega arith
 
-pub free_place : {r : Region} {t : List Member} {b : List ℕ} {c l p : ℕ} → Holds r t b c l p → c + 17 ≤ length b → length t < p
+pub free_place : {r : Region} {t : List Member} {b : List ℕ} {c l p : ℕ} → Holds r t b c l p → c + least_extent ≤ length b → length t < p
 free_place {r} h room =
     let least = table_least h in
     let places = h.room in
@@ -259,14 +266,11 @@ count-live es n below live =
 pub start_is : {r : Region} {t : List Member} {b : List ℕ} {c l p : ℕ} → Holds r t b c l p → (k : ℕ) (m : Member) → k < length r.extents → m ≡ get_or t k m → m.at ≡ start_of r.extents k + prefix_size (extent_at r.extents k).capacity
 start_is h k m below e = ap (λ (x : Member). x.at) (member_is h k m below e)
 
--- a live extent's text lies within its room, and is that of the number that its offset has
-pub size_fits : {r : Region} {t : List Member} {b : List ℕ} {c l p at k : ℕ} → Holds r t b c l p → Found r b c l at k → (m : Member) → m ≡ get_or t k m → at + m.size ≤ length b
-size_fits {k = k} h f m e =
-    let n = ap (λ (x : Member). x.size) (member_is h k m f.below e) in
-    let within = f.within in
-    let buffer = f.buffer in
-    let fits = f.sized.fits in
-    omega arith
-
-pub text_at_is : {r : Region} {b : List ℕ} {c l at k : ℕ} → Found r b c l at k → {u : List ℕ} → (extent_at r.extents k).text ≡ Some u → (extent_at r.extents (number_at r.extents at)).text ≡ Some u
-text_at_is {r} f e = ap (λ i. (extent_at r.extents i).text) f.number ∙ e
+-- the text of a live extent is a part of the buffer, from its offset on
+pub text_sliced : {r : Region} {t : List Member} {b : List ℕ} {c l p at k : ℕ} → Holds r t b c l p → Found r b c l at k → (size : ℕ) → length (text_bytes (extent_at r.extents k)) ≡ size → (extent_at r.extents k).text ≡ Some (take size (drop at b))
+text_sliced {r} {t} {b} {k = k} h f size same =
+    let start = start_of r.extents k in
+    let m : Member = member_of start (extent_at r.extents k) in
+    let is_m : m ≡ get_or t k m =
+    sym (ap (λ (x : List Member). get_or x k m) h.table_is ∙ table-at 0 r.extents k m f.below ∙ ap (λ n. member_of n (extent_at r.extents k)) (zero-add start)) in
+    text_is h k m f.alive is_m ∙ ap₂ (λ n a. Some (take n (drop a b))) same (sym f.at_is)

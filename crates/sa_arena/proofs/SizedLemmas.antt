@@ -1,7 +1,7 @@
 -- Extents as the arena makes them: each of them, and what keeps them so.
 use Rattle.std.proofs.Common.{◌≤◌, ◌<◌, ◌*◌, ℕ, zero, suc, List, [], ◌∷◌, ◌++◌, length, take, Option, arith}
 use Rattle.sa_arena.specs.Extents.{Extent, cursor_of, extent_at, with_text}
-use Rattle.sa_arena.specs.Members.{IsSized, AllSized}
+use Rattle.sa_arena.specs.Members.{least_extent, IsSized, AllSized}
 use Rattle.sa_arena.proofs.ExtentLemmas.{cursor-cons, prefix_size-some}
 
 pub sized-at : (es : List Extent) (k : ℕ) → AllSized es → k < length es → IsSized (extent_at es k)
@@ -23,8 +23,8 @@ sized-with_text [] k t h one = tt
 sized-with_text (e ∷ es) zero t h one = (one, h.1)
 sized-with_text (e ∷ es) (suc k) t h one = (h.0, sized-with_text es k t h.1 one)
 
--- an extent has at least 17 bytes
-pub cursor-least : (es : List Extent) → AllSized es → 17 * length es ≤ cursor_of es
+-- extents have their least bytes each
+pub cursor-least : (es : List Extent) → AllSized es → least_extent * length es ≤ cursor_of es
 cursor-least [] h = omega arith
 cursor-least (e ∷ es) h =
     let c = cursor-cons e es in

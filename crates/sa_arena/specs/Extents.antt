@@ -1,5 +1,15 @@
 -- The extents of an arena in order of creation, and where each lies: this project's own layout. The texts are lists of any numbers: bytes in the arena, code points in a layout.
-use Rattle.std.specs.Prelude.{ℕ, suc, ◌+◌, ◌-◌, ◌==◌, nat_le, Bool, if◌then◌else◌, List, [], ◌∷◌, length, take, sum_by, slice_index_or, slice_set, Option, Some, None, is_some}
+use Rattle.std.specs.Prelude.{ℕ, suc, ◌+◌, ◌-◌, ◌==◌, nat_le, Bool, if◌then◌else◌, List, [], ◌∷◌, length, take, sum_by, slice_index_or, slice_set, Option, Some, None, is_some, unwrap_or, ◌≤◌}
+
+-- the fewest and the most bytes of a text in the arena: a shorter one stands in its entry, and no text is longer
+abbrev pub least_text : ℕ
+least_text = 16
+
+abbrev pub most_text : ℕ
+most_text = 65536
+
+abbrev pub IsTextSize : ℕ → Type 0
+IsTextSize size = (least_text ≤ size) × (size ≤ most_text)
 
 -- an extent: the most bytes that its text may have, and its text; without one it is dead
 pub record Extent : Type 0 where
@@ -10,6 +20,10 @@ pub record Extent : Type 0 where
 pub record Region : Type 0 where
   pub extents : List Extent
   pub size : ℕ
+
+-- the bytes of an extent's text; a dead one has none
+abbrev pub text_bytes : Extent → List ℕ
+text_bytes e = unwrap_or e.text []
 
 -- the bytes of the prefix in front of a text: one, or a word of eight where one does not hold the capacity
 unfoldable pub prefix_size : ℕ → ℕ

@@ -1,5 +1,5 @@
 -- The bytes that extents are, one behind another: this project's own layout.
-use Rattle.std.specs.Prelude.{ℕ, ◌+◌, ◌-◌, ◌/◌, nat_le, max, if◌then◌else◌, List, [], ◌∷◌, ◌++◌, length, replicate, Option, Some, None}
+use Rattle.std.specs.Prelude.{ℕ, ◌+◌, ◌-◌, ◌/◌, ◌^◌, nat_le, max, if◌then◌else◌, List, [], ◌∷◌, ◌++◌, length, replicate, Option, Some, None}
 use Rattle.std.specs.Int.{to_le_bytes, w64}
 use Rattle.std.specs.List.{flat_map}
 use Rattle.sa_arena.specs.Extents.{Extent, Region, prefix_size, cursor_of}
@@ -23,6 +23,10 @@ extent_image e = image_with e.capacity e.text
 -- the bytes of all extents
 abbrev pub image_of : List Extent → List ℕ
 image_of es = flat_map extent_image es
+
+-- the most bytes that an arena is asked to make room for at once
+abbrev pub most_asked : ℕ
+most_asked = 2 ^ 40
 
 -- The size of an arena's buffer after room for so many more bytes was asked for: as before where they are spare; else what is needed, and at least a quarter more than before.
 abbrev pub grown_size : Region → ℕ → ℕ

@@ -1,11 +1,14 @@
 ghost use Rattle.std.specs.Prelude.{◌≡◌, ◌+◌, ◌*◌, ◌≤◌, ◌<◌, ◌^◌, ◌++◌, ◌∷◌, [], length, take, drop, Some, None, true, OnOk, OnErr};
-ghost use Rattle.sa_arena.specs.Extents.{cursor_of, live_bytes, prefix_size, extent_for, is_live, number_at, extent_at, start_of, with_text, trimmed};
-ghost use Rattle.sa_arena.specs.Images.{image_of, grown_size};
+ghost use Rattle.sa_arena.specs.Extents.{least_text, IsTextSize, text_bytes, cursor_of, live_bytes, prefix_size, extent_for, is_live, number_at, extent_at, start_of, with_text, trimmed};
+ghost use Rattle.sa_arena.specs.Images.{image_of, grown_size, most_asked};
 
-use crate::buffer::{prefix_len, write_extent, write_padded, write_zeros};
+use crate::buffer::{fill, prefix_len, write_extent, write_padded, write_zeros};
 use sa_base::Memory;
 use std::alloc::Global;
 use std::marker::Model;
+
+/// The fewest bytes of an extent: a prefix of one byte, and a text of 16.
+const LEAST_EXTENT: usize = 17;
 
 /// What the table says of one extent: the offset of its text, how many bytes the text may have, how
 /// many it has, none where the extent is dead, and whether it is live.
@@ -57,7 +60,7 @@ impl Arena {
     /// changes; else the buffer grows to what is needed, and at least by a quarter. After a want of
     /// memory the extents and the size are as before.
     pub fn reserve(&mut self, bytes: u64) -> Result<(), Memory>
-        requires { bytes ≤ 2 ^ 40 }
+        requires { bytes ≤ most_asked }
         ensures extents { self.new.extents ≡ self.old.extents }
         ensures size { OnOk result (self.new.size ≡ grown_size self.old bytes) }
         ensures grows { self.old.size ≤ self.new.size }
@@ -69,16 +72,18 @@ impl Arena {
             return Ok(());
         }
         let grown = needed.max(size + size / 4) as usize;
-        // an extent has at least 17 bytes, so this many places are enough for all that fit
-        let places = grown / 17 + 1;
-        self.table.reserve(places - self.table.len())?;
-        self.bytes.resize(grown, 0)?;
+        // this many places are enough for all extents that fit
+        let places = grown / LEAST_EXTENT + 1;
+        // both are made room for first, so that want of memory leaves the buffer as it is
+        self.bytes.reserve_exact(grown - size as usize)?;
+        self.table.reserve_exact(places - self.table.len())?;
+        fill(&mut self.bytes, grown);
         Ok(())
     }
 
     /// A new live extent with a text; the offset of the text's first byte. It takes no memory.
     pub fn append(&mut self, text: &[u8]) -> u64
-        requires size { (16 ≤ length text.now) × (length text.now ≤ 65536) }
+        requires size { IsTextSize (length text.now) }
         requires room { cursor_of self.old.extents + (prefix_size (length text.now) + length text.now) ≤ self.old.size }
         ensures extents { self.new.extents ≡ self.old.extents ++ extent_for text.now ∷ [] }
         ensures size { self.new.size ≡ self.old.size }
@@ -102,7 +107,7 @@ impl Arena {
     /// Puts a text into the extent at an offset, which keeps its place and its capacity.
     pub fn reuse(&mut self, at: u64, text: &[u8])
         requires live { is_live self.old.extents (number_at self.old.extents at) ≡ true }
-        requires size { (16 ≤ length text.now) × (length text.now ≤ (extent_at self.old.extents (number_at self.old.extents at)).capacity) }
+        requires size { (least_text ≤ length text.now) × (length text.now ≤ (extent_at self.old.extents (number_at self.old.extents at)).capacity) }
         ensures extents { self.new.extents ≡ with_text self.old.extents (number_at self.old.extents at) (Some text.now) }
         ensures size { self.new.size ≡ self.old.size }
     {
@@ -152,13 +157,17 @@ impl Arena {
         self.capacity(self.number_of(at)) as u64
     }
 
-    /// The text of the live extent at an offset, lent.
-    pub fn text_at(&self, at: u64) -> &[u8]
-        requires { is_live self.now.extents (number_at self.now.extents at) ≡ true }
+    /// The text of the live extent at an offset, lent. Its size is known to the caller, so nothing is
+    /// searched.
+    #[inline(always)]
+    pub fn text_at(&self, at: u64, size: u64) -> &[u8]
+        requires live { is_live self.now.extents (number_at self.now.extents at) ≡ true }
+        requires size { length (text_bytes (extent_at self.now.extents (number_at self.now.extents at))) ≡ size }
         ensures { (extent_at self.now.extents (number_at self.now.extents at)).text ≡ Some result.now }
     {
-        let size = self.table[self.number_of(at)].size as u64;
-        &self.bytes[at as usize..(at + size) as usize]
+        let bytes = self.bytes.as_slice();
+        let end = (at + size) as usize;
+        &bytes[at as usize..end]
     }
 
     /// The first bytes of the room of the live extent at an offset, lent: a part of the image.

@@ -1,4 +1,4 @@
-ghost use Rattle.std.specs.Prelude.{◌≡◌, ◌+◌, ◌≤◌, ◌<◌, ◌^◌, length, replicate};
+ghost use Rattle.std.specs.Prelude.{◌≡◌, ◌+◌, ◌-◌, ◌≤◌, ◌<◌, ◌^◌, ◌++◌, length, replicate, vec_len, vec_capacity};
 ghost use Rattle.sa_arena.specs.Buffers.{written};
 ghost use Rattle.sa_arena.specs.Extents.{prefix_size, extent_for};
 ghost use Rattle.sa_arena.specs.Images.{prefix_bytes, padded, extent_image};
@@ -9,6 +9,18 @@ pub fn prefix_len(capacity: u64) -> u64
     ensures { result ≡ prefix_size capacity }
 {
     if capacity <= 255 { 1 } else { 8 }
+}
+
+/// Zeros behind the bytes of a vector up to a size, for which it has the room.
+pub fn fill(bytes: &mut Vec<u8>, size: usize)
+    requires more { vec_len bytes.old ≤ size }
+    requires room { size ≤ vec_capacity bytes.old }
+    ensures { bytes.new.items ≡ bytes.old.items ++ replicate (size - vec_len bytes.old) 0 }
+{
+    match bytes.resize(size, 0) {
+        Ok(()) => {}
+        Err(_) => unreachable!(),
+    }
 }
 
 /// Writes bytes from a place on.

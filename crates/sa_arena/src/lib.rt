@@ -4,7 +4,7 @@
 //! the capacity; a dead one is zeros. Beside the buffer stands a table with a member for each extent,
 //! in order. Offsets rise along it, so an extent is found from its text's offset by a search by
 //! halves. Only `reserve` takes memory, for the buffer and for the table: an extent has at least 17
-//! bytes, so the table has a place for each 17 bytes of the buffer.
+//! bytes, so the table has a place for each 17 bytes of the buffer, and no more than one beside them.
 #![tactic(auto)]
 
 mod arena;

@@ -16,7 +16,7 @@ fn extents_are_reused_and_die(rt: HostRuntime) -> Result<(), Fail> {
     assert_eq!(rt; arena.image(), b"\x10abcdefghijklmnop".as_slice());
     assert_eq!(rt; arena.append(SECOND), 18);
     assert_eq!(rt; arena.append(FIRST), 35);
-    assert_eq!(rt; arena.text_at(18), SECOND.as_slice());
+    assert_eq!(rt; arena.text_at(18, 16), SECOND.as_slice());
     arena.kill(18);
     assert_eq!(rt; (arena.cursor(), arena.live()), (51, 34));
     arena.kill(35);
@@ -47,7 +47,7 @@ fn reuse_keeps_the_capacity(rt: HostRuntime) -> Result<(), Fail> {
     assert_eq!(rt; arena.append(b"abcdefghijklmnopqrstuvwx"), 1);
     arena.reuse(1, SECOND);
     assert_eq!(rt; arena.capacity_at(1), 24);
-    assert_eq!(rt; arena.text_at(1), SECOND.as_slice());
+    assert_eq!(rt; arena.text_at(1, 16), SECOND.as_slice());
     assert_eq!(rt; arena.bytes_at(1, 18), b"ABCDEFGHIJKLMNOP\0\0".as_slice());
     assert_eq!(rt;
         arena.image(),

@@ -5,7 +5,7 @@ use Rattle.std.specs.List.{AllByRecursion}
 use Rattle.std.proofs.lemmas.List.{get_or_at, take_at, set_at, drop-replicate, replicate_more, length-replicate}
 use Rattle.std.proofs.lemmas.Nat.{from_le_bytes-to_le_bytes_8}
 use Rattle.std.proofs.lemmas.Bool.{le-leb}
-use Rattle.sa_entry.specs.Slots.{Slot, Fresh, Inline, InArena, Outside, Missing, IsSlot, IsOuterSize, spelling, size_bytes}
+use Rattle.sa_entry.specs.Slots.{Slot, Fresh, Inline, InArena, Outside, Missing, IsSlot, IsOuterSize, spelling, size_bytes, form_of, HasFormSizes}
 use Rattle.sa_entry.specs.Readings.{slot_of, slot_by, IsSpelling}
 
 -- a size of at most 65,536 has no eighth byte
@@ -74,3 +74,12 @@ pub IsSpelling-spelled : (slot : Slot) (bytes : List ℕ) → IsSlot slot → sp
 IsSpelling-spelled slot bytes h e =
     let same : slot_of bytes ≡ slot = slot_of-spelled slot bytes h e in
     record { spelled = ap spelling same ∙ e; slot = subst IsSlot (sym same) h }
+
+-- what a slot may hold gives the sizes of its form
+pub sizes-form : (slot : Slot) → IsSlot slot → HasFormSizes (form_of slot)
+sizes-form Fresh h = tt
+sizes-form (Inline bytes) h = h.0
+sizes-form (InArena at size true) h = (h.1, λ e. let never : true ≡ false = e in cc)
+sizes-form (InArena at size false) h = (h.1, λ e. h.2)
+sizes-form (Outside key size) h = h.1
+sizes-form Missing h = tt

@@ -20,6 +20,10 @@ least_outer = 16
 abbrev pub most_outer : ℕ
 most_outer = 65536
 
+-- the most bytes of a text in the arena behind a prefix of one byte
+abbrev pub most_short : ℕ
+most_short = 255
+
 -- a size that a text in the arena or outside has
 abbrev pub IsOuterSize : ℕ → Type 0
 IsOuterSize size = (least_outer ≤ size) × (size ≤ most_outer)
@@ -29,7 +33,7 @@ abbrev pub IsSlot : Slot → Type 0
 IsSlot Fresh = Unit {0}
 IsSlot (Inline bytes) = (length bytes < least_outer) × AllByRecursion (λ (b : ℕ). b < 256) bytes
 IsSlot (InArena at size true) = (at < 2 ^ 64) × IsOuterSize size
-IsSlot (InArena at size false) = (at < 2 ^ 64) × IsOuterSize size × (size < 256)
+IsSlot (InArena at size false) = (at < 2 ^ 64) × IsOuterSize size × (size ≤ most_short)
 IsSlot (Outside key size) = (key < 2 ^ 64) × IsOuterSize size
 IsSlot Missing = Unit {0}
 
@@ -60,6 +64,14 @@ form_of (Inline bytes) = form.Inline (length bytes)
 form_of (InArena at size long) = form.Arena at size long
 form_of (Outside key size) = form.Outside key size
 form_of Missing = form.Missing
+
+-- the sizes that a form may have: at most 15 bytes inside the slot; 16 to 65,536 elsewhere, and at most 255 behind a short prefix
+abbrev pub HasFormSizes : Form → Type 0
+HasFormSizes form.Fresh = Unit {0}
+HasFormSizes (form.Inline size) = size < least_outer
+HasFormSizes (form.Arena at size long) = IsOuterSize size × (long ≡ false → size ≤ most_short)
+HasFormSizes (form.Outside key size) = IsOuterSize size
+HasFormSizes form.Missing = Unit {0}
 
 -- the text stands inside the slot
 abbrev pub is_inside : Slot → Bool

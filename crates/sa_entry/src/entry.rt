@@ -1,5 +1,5 @@
 ghost use Rattle.std.specs.Prelude.{◌≡◌, ◌≤◌, ◌<◌, ◌++◌, ◌∷◌, [], length, true, false, Option, Some, IfSome, IfNone, IsTrue, ◌↔◌};
-ghost use Rattle.sa_entry.specs.Slots.{Slot, Fresh, Inline, InArena, Outside, Missing, IsSlot, spelling, form_of, is_inside, inside_bytes, word, size_bytes, IsOuterSize, IsReading};
+ghost use Rattle.sa_entry.specs.Slots.{Slot, Fresh, Inline, InArena, Outside, Missing, IsSlot, spelling, form_of, HasFormSizes, is_inside, inside_bytes, word, size_bytes, least_outer, most_short, IsOuterSize, IsReading};
 ghost use Rattle.sa_entry.specs.Readings.{slot_of, first_word, size_in, IsSpelling};
 
 use crate::form::Form;
@@ -71,7 +71,7 @@ impl Entry {
 
     /// The slot with a text of at most 15 bytes in it.
     pub fn inline(bytes: &[u8]) -> Entry
-        requires { length bytes.now < 16 }
+        requires { length bytes.now < least_outer }
         ensures { result ≡ Inline bytes.now }
     {
         let mut slot = [0; 16];
@@ -80,12 +80,23 @@ impl Entry {
         Entry { bytes: slot }
     }
 
+    /// Makes this the slot with a text of at most 15 bytes in it, where it stands.
+    #[inline(always)]
+    pub fn set_inline(&mut self, bytes: &[u8])
+        requires { length bytes.now < least_outer }
+        ensures { self.new ≡ Inline bytes.now }
+    {
+        self.bytes = [0; 16];
+        self.bytes[..bytes.len()].copy_from_slice(bytes);
+        self.bytes[15] = INLINE + bytes.len() as u8;
+    }
+
     /// The slot of a text in the arena: `at` is the place of its first byte there, `size` how many
     /// bytes it has, 16 to 65,536, and `long` says that the prefix in front of it is a word. Behind a
     /// short prefix a text has at most 255 bytes.
     pub fn in_arena(at: u64, size: u64, long: bool) -> Entry
-        requires size { (16 ≤ size) × (size ≤ 65536) }
-        requires short { long ≡ false → size ≤ 255 }
+        requires size { IsOuterSize size }
+        requires short { long ≡ false → size ≤ most_short }
         ensures { result ≡ InArena at size long }
     {
         let flags = if long { ARENA_LONG } else { ARENA_SHORT };
@@ -96,7 +107,7 @@ impl Entry {
 
     /// The slot of a text outside the arena, under a key, with its size in bytes, 16 to 65,536.
     pub fn outside(key: u64, size: u64) -> Entry
-        requires { (16 ≤ size) × (size ≤ 65536) }
+        requires { IsOuterSize size }
         ensures { result ≡ Outside key size }
     {
         Entry {
@@ -104,31 +115,14 @@ impl Entry {
         }
     }
 
-    /// What the slot says, without the bytes of a text inside it.
+    /// What the slot says, without the bytes of a text inside it. Each size is one that its form may
+    /// have.
+    #[inline]
     pub fn form(&self) -> Form
-        ensures { result ≡ form_of self.now }
+        ensures form { result ≡ form_of self.now }
+        ensures sizes { HasFormSizes result }
     {
-        match self.bytes[15] {
-            FRESH => Form::Fresh,
-            MISSING => Form::Missing,
-            ARENA_SHORT => Form::Arena {
-                at: word_in(&self.bytes),
-                size: size_in(&self.bytes),
-                long: false,
-            },
-            ARENA_LONG => Form::Arena {
-                at: word_in(&self.bytes),
-                size: size_in(&self.bytes),
-                long: true,
-            },
-            OUTSIDE => Form::Outside {
-                key: word_in(&self.bytes),
-                size: size_in(&self.bytes),
-            },
-            flags => Form::Inline {
-                size: flags - INLINE,
-            },
-        }
+        form_in(&self.bytes)
     }
 
     /// The bytes of the text inside the slot, at most 15: of an inline entry its text, of a fresh one
@@ -162,6 +156,35 @@ impl Entry {
         } else {
             None
         }
+    }
+}
+
+/// What the bytes of a spelling say, without the bytes of a text inside them.
+#[inline(always)]
+fn form_in(bytes: &[u8; 16]) -> Form
+    requires { IsSpelling bytes.now }
+    ensures { result ≡ form_of (slot_of bytes.now) }
+{
+    match bytes[15] {
+        FRESH => Form::Fresh,
+        MISSING => Form::Missing,
+        ARENA_SHORT => Form::Arena {
+            at: word_in(bytes),
+            size: size_in(bytes),
+            long: false,
+        },
+        ARENA_LONG => Form::Arena {
+            at: word_in(bytes),
+            size: size_in(bytes),
+            long: true,
+        },
+        OUTSIDE => Form::Outside {
+            key: word_in(bytes),
+            size: size_in(bytes),
+        },
+        flags => Form::Inline {
+            size: flags - INLINE,
+        },
     }
 }
 

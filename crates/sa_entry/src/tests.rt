@@ -93,4 +93,11 @@ fn slots_are_spelled(rt: HostRuntime) {
     }
     assert_eq!(rt; Entry::inline(b"abc").inline_bytes(), b"abc".as_slice());
     assert!(rt; Entry::fresh().inline_bytes().is_empty());
+    for last in [Entry::missing(), Entry::outside(7, 20)] {
+        let mut entry = last;
+        entry.set_inline(b"abc");
+        assert_eq!(rt; entry.bytes(), Entry::inline(b"abc").bytes());
+        entry.set_inline(b"abcdefghijklmno");
+        assert_eq!(rt; entry.bytes(), *b"abcdefghijklmnoo");
+    }
 }

@@ -1,4 +1,5 @@
 use crate::Outside;
+use sa_bytes::SharedBytes;
 use std::test::Fail;
 
 #[test]
@@ -8,9 +9,9 @@ fn texts_stand_under_their_keys(rt: HostRuntime) -> Result<(), Fail> {
     assert_eq!(rt; texts.count(), 0);
     assert_eq!(rt; texts.get(0), None);
     texts.reserve(3)?;
-    let first = texts.put(b"first".to_vec(alloc)?);
-    let second = texts.put(b"second".to_vec(alloc)?);
-    let third = texts.put(b"third".to_vec(alloc)?);
+    let first = texts.put(SharedBytes::from_slice(alloc, b"first")?);
+    let second = texts.put(SharedBytes::from_slice(alloc, b"second")?);
+    let third = texts.put(SharedBytes::from_slice(alloc, b"third")?);
     assert_eq!(rt; texts.count(), 3);
     for (key, text) in [(first, "first"), (second, "second"), (third, "third")] {
         assert_eq!(rt; texts.get(key), Some(text.as_bytes()));
@@ -27,10 +28,12 @@ fn texts_are_swapped_and_freed(rt: HostRuntime) -> Result<(), Fail> {
     let alloc = rt.alloc();
     let mut texts = Outside::new(alloc);
     texts.reserve(2)?;
-    let kept = texts.put(b"kept".to_vec(alloc)?);
-    let key = texts.put(b"old".to_vec(alloc)?);
+    let kept = texts.put(SharedBytes::from_slice(alloc, b"kept")?);
+    let key = texts.put(SharedBytes::from_slice(alloc, b"old")?);
     assert_eq!(rt;
-        texts.swap(key, b"new".to_vec(alloc)?).as_slice(),
+        texts
+            .swap(key, SharedBytes::from_slice(alloc, b"new")?)
+            .as_slice(),
         b"old".as_slice()
     );
     assert_eq!(rt; texts.get(key), Some(b"new".as_slice()));
@@ -39,7 +42,7 @@ fn texts_are_swapped_and_freed(rt: HostRuntime) -> Result<(), Fail> {
     assert_eq!(rt; texts.get(key), None);
     assert_eq!(rt; texts.count(), 1);
     texts.reserve(1)?;
-    let again = texts.put(b"again".to_vec(alloc)?);
+    let again = texts.put(SharedBytes::from_slice(alloc, b"again")?);
     assert_ne!(rt; again, kept);
     assert_eq!(rt; texts.get(again), Some(b"again".as_slice()));
     assert_eq!(rt; texts.get(kept), Some(b"kept".as_slice()));

@@ -1,8 +1,9 @@
 -- What a call makes of what it reads: its weight, its refusals, its results and its reply.
-use Rattle.std.specs.Prelude.{ℕ, ◌+◌, ◌==◌, nat_lt, Bool, false, ◌&&◌, not, List, [], ◌∷◌, ◌++◌, length, take, drop, replicate, map, sum_by, Option, Some, None, if◌then◌else◌}
+use Rattle.std.specs.Prelude.{ℕ, ◌+◌, ◌==◌, nat_lt, Bool, false, ◌&&◌, not, List, [], ◌∷◌, ◌++◌, length, take, drop, map, sum_by, Option, Some, None, if◌then◌else◌}
 use Rattle.sa_base.specs.Items.{Item}
 use Rattle.sa_base.specs.Deeds.{Place, Part, Read, Weighed, Counted, Pictured, PictureWeighed}
 use Rattle.sa_text.specs.Values.{value_weight, is_missing, value_of}
+pub use Rattle.sa_text.specs.Values.{stretched}
 use Rattle.sa_text.specs.declared.value.Value.{Value}
 use Rattle.sa_descr.specs.Rules.{is_given, rule_at}
 use Rattle.sa_plain.specs.Items.{items_weight, values_of}
@@ -86,12 +87,6 @@ values_from decls parts before (o ∷ os) = operand_values decls parts before o 
 abbrev pub first_of : List (List Value) → List Value
 first_of [] = []
 first_of (values ∷ others) = values
-
--- a list of one item is stretched to this length
-abbrev pub stretched : ℕ → List Value → List Value
-stretched count [] = []
-stretched count (v ∷ []) = replicate count v
-stretched count (v ∷ w ∷ vs) = v ∷ w ∷ vs
 
 -- Whether the output forbids missing values: its descriptor has none.
 abbrev pub forbids : Declared → Option View → Bool

@@ -1,5 +1,5 @@
 -- Values, their weights, and the item that a value is.
-use Rattle.std.specs.Prelude.{ℕ, ◌+◌, List, sum_by, Bool, true, false}
+use Rattle.std.specs.Prelude.{ℕ, ◌+◌, List, [], ◌∷◌, replicate, sum_by, Bool, true, false}
 use Rattle.sa_base.specs.Items.{Item, MissingItem, TextItem, IntegerItem, FlagItem, BytesItem, UnitsItem}
 use Rattle.sa_text.specs.Texts.{text_size}
 use Rattle.sa_text.specs.declared.value.Value.{Value}
@@ -14,6 +14,13 @@ value_weight (Of text) = 16 + text_size text
 abbrev pub weight_of : List Value → ℕ
 weight_of values = sum_by value_weight values
 
+-- a list of one value is stretched to this length
+abbrev pub stretched : ℕ → List Value → List Value
+stretched count [] = []
+stretched count (v ∷ []) = replicate count v
+stretched count (v ∷ w ∷ vs) = v ∷ w ∷ vs
+
+-- the value is missing
 abbrev pub is_missing : Value → Bool
 is_missing Missing = true
 is_missing (Of text) = false

@@ -2,11 +2,13 @@
 //! code points; a value is missing or a text.
 #![tactic(auto)]
 
+mod stretched;
 mod text;
 mod text_error;
 mod value;
 mod weight;
 
+pub use stretched::{stretched_at, stretched_len};
 pub use text::Text;
 pub use text_error::TextError;
 pub use value::Value;

@@ -1,5 +1,10 @@
-use crate::{Text, TextError, Value, values_weight};
+use crate::{Text, TextError, Value, stretched_at, stretched_len, values_weight};
 use std::test::Fail;
+
+/// Takes a value whose type may go to other threads, by value and by reference.
+fn goes_to_threads<T: Send + Sync>(value: &T) -> &T {
+    value
+}
 
 #[test]
 fn long_texts(rt: HostRuntime) -> Result<(), Fail> {
@@ -36,7 +41,26 @@ fn short_texts(rt: HostRuntime) -> Result<(), Fail> {
     assert!(rt; none.as_bytes().is_empty());
     let some = Text::from_bytes(alloc, "é".as_bytes())?;
     assert!(rt; !some.is_same(&none));
+    // two bytes of UTF-8, and one that is not behind them
+    let front = Text::from_front(alloc, &[0xc3, 0xa9, 0xff], 2)?;
+    assert!(rt; goes_to_threads(&front).is_same(&some));
+    assert_eq!(rt; front.size(), 2);
+    let whole = Text::from_utf8(alloc, "é".as_bytes())?;
+    assert!(rt; whole.is_same(&some));
     Ok(())
+}
+
+#[test]
+fn one_value_is_stretched(rt: HostRuntime) {
+    let values = [Value::Missing, Value::Missing];
+    let lengths = [
+        stretched_len(5, &values[..0]),
+        stretched_len(5, &values[..1]),
+        stretched_len(5, &values),
+    ];
+    assert_eq!(rt; lengths, [0, 5, 2]);
+    assert!(rt; goes_to_threads(stretched_at(5, &values[..1], 4)).is_missing());
+    assert!(rt; stretched_at(5, &values, 1).is_missing());
 }
 
 #[test]

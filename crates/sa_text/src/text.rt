@@ -1,42 +1,36 @@
-ghost use Rattle.std.specs.Prelude.{◌≡◌, ◌≤◌, ◌^◌, length, [], IfOk, IsUtf8, encode_utf8_all};
+ghost use Rattle.std.specs.Prelude.{◌≡◌, ◌≤◌, length, take, IfOk, IsUtf8, encode_utf8_all};
 ghost use Rattle.std.specs.Str.{chars, bytes_eq};
-ghost use Rattle.sa_text.specs.Texts.{Gives, text_of};
+ghost use Rattle.sa_text.specs.Texts.{Gives, text_of, text_size, most_bytes};
 
 use crate::text_error::TextError;
 use sa_base::Memory;
+use sa_bytes::SharedBytes;
 use std::alloc::Global;
 use std::marker::Model;
 
 /// The most bytes that one text has.
 pub const MAX_BYTES: usize = 65_536;
 
-/// A text: UTF-8 of at most 65,536 bytes. Contracts see its code points, in order.
+/// A text: UTF-8 of at most 65,536 bytes, which its copies share. Contracts see its code points, in
+/// order.
 #[derive(Debug, Drop)]
 pub struct Text {
-    bytes: Vec<u8>,
+    bytes: SharedBytes,
 }
 
 impl Model for Text {
     ghost use Rattle.std.specs.Prelude.{List, ℕ, ◌≤◌, length, IsUtf8};
     ghost use Rattle.std.specs.Str.{chars};
+    ghost use Rattle.sa_text.specs.Texts.{most_bytes};
 
     ghost Value = { List ℕ };
 
-    ghost view = { λ t. chars t.bytes.items };
+    ghost view = { λ t. chars t.bytes };
 
-    ghost invariant = { λ t. IsUtf8 t.bytes.items × (length t.bytes.items ≤ 65536) };
+    ghost invariant = { λ t. IsUtf8 t.bytes × (length t.bytes ≤ most_bytes) };
 }
 
 impl Text {
-    /// The empty text. It takes no memory.
-    pub fn new(alloc: Global) -> Text
-        ensures { result ≡ [] }
-    {
-        Text {
-            bytes: Vec::new(alloc),
-        }
-    }
-
     /// The text that the bytes are. More than 65,536 bytes are too long; at most that many that are
     /// not UTF-8 are refused as such.
     pub fn from_bytes(alloc: Global, bytes: &[u8]) -> Result<Text, TextError>
@@ -48,44 +42,83 @@ impl Text {
         if !simdutf8::is_utf8(bytes) {
             return Err(TextError::NotUtf8);
         }
-        match Vec::from_slice(alloc, bytes) {
+        match SharedBytes::from_slice(alloc, bytes) {
             Ok(bytes) => Ok(Text { bytes }),
             Err(_) => Err(TextError::Memory),
         }
     }
 
-    /// The same text once more.
-    pub fn copy(&self, alloc: Global) -> Result<Text, Memory>
+    /// The text of UTF-8 of at most 65,536 bytes, which is not tested again. `Memory` where there is no
+    /// memory for it.
+    #[inline]
+    pub fn from_utf8(alloc: Global, bytes: &[u8]) -> Result<Text, Memory>
+        requires utf8 { IsUtf8 bytes.now }
+        requires short { length bytes.now ≤ most_bytes }
+        ensures { IfOk result (λ t. t ≡ chars bytes.now) }
+    {
+        let bytes = SharedBytes::from_slice(alloc, bytes)?;
+        Ok(Text { bytes })
+    }
+
+    /// The text of the first `size` bytes of a slice, which are UTF-8 and at most 65,536. Bytes behind
+    /// them may be read, and count for nothing. `Memory` where there is no memory for the text.
+    #[inline(always)]
+    pub fn from_front(alloc: Global, bytes: &[u8], size: usize) -> Result<Text, Memory>
+        requires within { size ≤ length bytes.now }
+        requires utf8 { IsUtf8 (take size bytes.now) }
+        requires short { size ≤ most_bytes }
+        ensures { IfOk result (λ t. t ≡ chars (take size bytes.now)) }
+    {
+        let bytes = SharedBytes::from_front(alloc, bytes, size)?;
+        Ok(Text { bytes })
+    }
+
+    /// The same text once more. It takes no memory; `Memory` means that there are too many copies to be
+    /// counted.
+    #[inline]
+    pub fn copy(&self, _alloc: Global) -> Result<Text, Memory>
         ensures { IfOk result (λ t. t ≡ self.now) }
     {
-        let bytes = Vec::from_slice(alloc, self.bytes.as_slice())?;
+        let bytes = self.bytes.copy()?;
         Ok(Text { bytes })
     }
 
     /// The text's UTF-8.
+    #[inline]
     pub fn as_bytes(&self) -> &[u8]
         ensures points { chars result.now ≡ self.now }
         ensures bytes { result.now ≡ encode_utf8_all self.now }
         ensures utf8 { IsUtf8 result.now }
-        ensures short { length result.now ≤ 65536 }
+        ensures short { length result.now ≤ most_bytes }
     {
         self.bytes.as_slice()
     }
 
+    /// How many bytes the text's UTF-8 has. None of them is read.
+    #[inline]
+    pub fn size(&self) -> usize
+        ensures size { result ≡ text_size self.now }
+        ensures most { result ≤ most_bytes }
+    {
+        self.bytes.len()
+    }
+
     /// The text's UTF-8, handed out. It takes no memory.
-    pub fn into_bytes(self) -> Vec<u8>
-        ensures points { chars result.items ≡ self }
-        ensures bytes { result.items ≡ encode_utf8_all self }
-        ensures utf8 { IsUtf8 result.items }
-        ensures short { length result.items ≤ 65536 }
+    #[inline]
+    pub fn into_bytes(self) -> SharedBytes
+        ensures points { chars result ≡ self }
+        ensures bytes { result ≡ encode_utf8_all self }
+        ensures utf8 { IsUtf8 result }
+        ensures short { length result ≤ most_bytes }
     {
         self.bytes
     }
 
     /// Whether two texts are the same.
+    #[inline]
     pub fn is_same(&self, other: &Text) -> bool
         ensures { result ≡ bytes_eq self.now other.now }
     {
-        self.bytes == other.bytes
+        self.bytes.is_same(&other.bytes)
     }
 }

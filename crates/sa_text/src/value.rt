@@ -13,7 +13,8 @@ pub enum Value {
 }
 
 impl Value {
-    /// The same value once more.
+    /// The same value once more, as `Text::copy` gives it.
+    #[inline]
     pub fn copy(&self, alloc: Global) -> Result<Value, Memory>
         ensures { IfOk result (λ v. v ≡ self.now) }
     {
@@ -24,6 +25,7 @@ impl Value {
     }
 
     /// Whether the value is missing.
+    #[inline]
     pub fn is_missing(&self) -> bool
         ensures { result ≡ is_missing self.now }
     {

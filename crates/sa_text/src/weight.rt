@@ -1,4 +1,5 @@
-ghost use Rattle.std.specs.Prelude.{◌≡◌, ◌≤◌, ◌*◌, length};
+ghost use Rattle.std.specs.Prelude.{◌≡◌, ◌+◌, ◌≤◌, length};
+ghost use Rattle.sa_text.specs.Texts.{most_bytes};
 ghost use Rattle.sa_text.specs.Values.{value_weight, weight_of};
 
 use crate::value::Value;
@@ -7,13 +8,14 @@ use crate::value::Value;
 const ITEM_WEIGHT: u64 = 16;
 
 /// The weight of one value: 16, and the bytes of its text.
+#[inline]
 pub fn value_weight(value: &Value) -> u64
     ensures weight { result ≡ value_weight value.now }
-    ensures most { result ≤ 65552 }
+    ensures most { result ≤ 16 + most_bytes }
 {
     match value {
         Value::Missing => ITEM_WEIGHT,
-        Value::Of(text) => ITEM_WEIGHT + text.as_bytes().len() as u64,
+        Value::Of(text) => ITEM_WEIGHT + text.size() as u64,
     }
 }
 

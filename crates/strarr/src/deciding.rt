@@ -6,32 +6,11 @@ use sa_base::Memory;
 use sa_descr::rule_of;
 use sa_plain::ValueList;
 use sa_script::{Decls, Refusal, View};
-use sa_text::{Value, value_weight};
+use sa_text::{Value, stretched_at, stretched_len, value_weight};
 use std::alloc::Global;
 
 /// The most that one call weighs.
 pub const MOST_WEIGHT: u64 = 1_048_576;
-
-/// How many values a list has where it is stretched to a count.
-pub fn stretched_len(count: usize, values: &[Value]) -> usize
-    ensures { result ≡ length (stretched count values.now) }
-{
-    match values {
-        [_] => count,
-        _ => values.len(),
-    }
-}
-
-/// A value of a list that is stretched to a count.
-fn stretched_at(count: usize, values: &[Value], k: usize) -> &Value
-    requires { k < length (stretched count values.now) }
-    ensures { result.now ≡ slice_index_or (stretched count values.now) k Missing }
-{
-    match values {
-        [only] => only,
-        _ => &values[k],
-    }
-}
 
 /// Whether the output forbids missing values: its home's rule has none.
 pub fn forbids(decls: &Decls, out: &View) -> bool

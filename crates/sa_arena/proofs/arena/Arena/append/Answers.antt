@@ -26,10 +26,10 @@ overflow_add-self-2 c =
 
 pub invariant_of-self : goal.invariant_of-self
 invariant_of-self c =
-    closed (after_append (opened c.self.invariant c.self.view_is) c.prefix_len.result c.args.text.now _ _ _ c.prefix_len.ensures c.requires.size.0 c.requires.size.1 c.requires.room
+    closed (after_append (opened c.self.invariant c.self.view_is) c.prefix_len.result c.args.text.now _ _ _ c.prefix_len.ensures c.requires.size c.requires.room
     (lent_bytes c.self.inside.bytes _ _ c.self.inside.cursor (extent_image (extent_for c.args.text.now)) c.deref_mut.ensures.value c.deref_mut.ensures.len c.write_extent.auto.bytes c.write_extent.ensures) c.push_reserved.ensures.items c.push_reserved.ensures.capacity)
 
 pub returns-clause-extents : goal.returns-clause-extents
 returns-clause-extents c =
-    same_extents (after_append (opened c.self.invariant c.self.view_is) c.prefix_len.result c.args.text.now _ _ _ c.prefix_len.ensures c.requires.size.0 c.requires.size.1 c.requires.room
+    same_extents (after_append (opened c.self.invariant c.self.view_is) c.prefix_len.result c.args.text.now _ _ _ c.prefix_len.ensures c.requires.size c.requires.room
     (lent_bytes c.self.inside.bytes _ _ c.self.inside.cursor (extent_image (extent_for c.args.text.now)) c.deref_mut.ensures.value c.deref_mut.ensures.len c.write_extent.auto.bytes c.write_extent.ensures) c.push_reserved.ensures.items c.push_reserved.ensures.capacity)

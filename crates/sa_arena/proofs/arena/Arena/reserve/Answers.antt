@@ -1,6 +1,8 @@
-use Rattle.std.proofs.Common.{◌≤◌, ◌*◌, length, arith}
-use Rattle.sa_arena.proofs.ChangeLemmas.{after_reserve}
-use Rattle.sa_arena.proofs.HoldsLemmas.{opened, closed, same_extents, table_least}
+-- Zeros behind the buffer, and places for the extents that fit into it.
+use Rattle.std.proofs.Common.{◌≡◌, ◌∙◌, ◌-◌, ◌++◌, ℕ, List, length, replicate, vec_capacity, ap, arith, length-append}
+use Rattle.std.proofs.lemmas.List.{length-replicate}
+use Rattle.sa_arena.specs.Members.{Holds}
+use Rattle.sa_arena.proofs.HoldsLemmas.{opened, closed, same_extents, table_least, grown}
 use Rattle.sa_arena.proofs.arena.Arena.reserve.Goals as goal
 
 pub overflow_sub-places : goal.overflow_sub-places
@@ -10,20 +12,25 @@ overflow_sub-places c =
     let n = c.self.inside.table.ok.0 in
     omega arith
 
-pub invariant_of-self-2 : goal.invariant_of-self-2
-invariant_of-self-2 c =
+-- the longer buffer and the table hold the extents
+held : (c : goal.After-fill) → Holds (record { extents = c.args.self.now.extents; size = length c.fill.new.bytes.items }) c.reserve_exact-2.new.self.items c.fill.new.bytes.items c.self.inside.cursor c.self.inside.live (vec_capacity c.reserve_exact-2.new.self)
+held c =
     let h = opened c.self.invariant c.self.view_is in
-    let room = c.in_ok-reserve.ensures.ok in
-    let size = c.resize.new.self.ok.0 in
+    let zeros : List ℕ = replicate (c.max-grown.result - c.reserve_exact.new.self.len) 0 in
+    let bytes : c.fill.new.bytes.items ≡ c.self.inside.bytes.items ++ zeros = c.fill.ensures ∙ ap (λ (x : List ℕ). x ++ zeros) c.reserve_exact.ensures.items in
+    let long = ap length bytes ∙ length-append c.self.inside.bytes.items zeros in
+    let behind : length zeros ≡ c.max-grown.result - c.reserve_exact.new.self.len = length-replicate (c.max-grown.result - c.reserve_exact.new.self.len) 0 in
     let n = c.self.inside.bytes.ok.0 in
-    let e = c.in_ok-resize.ensures.len in
-    closed (after_reserve h c.max-grown.result _ _ _ _ (omega arith) c.in_ok-resize.ensures.items c.reserve.ensures.items (omega arith))
+    let same = c.reserve_exact.ensures.len in
+    let all : length c.fill.new.bytes.items ≡ c.max-grown.result = omega arith in
+    let before = h.most_places in
+    let exact = c.in_ok-reserve_exact-2.ensures.capacity_exact in
+    let m = c.self.inside.table.ok.0 in
+    let least = table_least h in
+    grown h zeros c.fill.new.bytes.items _ _ bytes c.reserve_exact-2.ensures.items (omega arith) (omega arith)
+
+pub invariant_of-self-2 : goal.invariant_of-self-2
+invariant_of-self-2 c = closed (held c)
 
 pub returns-clause-extents : goal.returns-clause-extents
-returns-clause-extents c =
-    let h = opened c.self.invariant c.self.view_is in
-    let n = c.self.inside.bytes.ok.0 in
-    let size = c.resize.new.self.ok.0 in
-    let e = c.in_ok-resize.ensures.len in
-    let places : length c.resize.new.self.items ≤ 17 * length c.resize.new.self.items = omega arith in
-    same_extents (after_reserve h c.max-grown.result _ _ _ _ (omega arith) c.in_ok-resize.ensures.items c.reserve.ensures.items places)
+returns-clause-extents c = same_extents (held c)

@@ -9,7 +9,7 @@ returns-then-not-is_utf8 c = text_of-not_utf8 c.args.bytes.now (omega arith) (λ
 pub returns-in-Ok : goal.returns-in-Ok
 returns-in-Ok c =
     text_of-utf8 c.args.bytes.now (omega arith) (c.if-not-is_utf8.ensures.0 (search rules))
-    ∙ sym (ap (λ (bytes : List ℕ). Ok (chars bytes)) c.in-Ok.ensures.items)
+    ∙ sym (ap (λ (bytes : List ℕ). Ok (chars bytes)) c.in-Ok.ensures)
 
 pub returns-in-Err : goal.returns-in-Err
 returns-in-Err c =

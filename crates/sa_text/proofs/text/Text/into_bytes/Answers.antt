@@ -4,4 +4,4 @@ use Rattle.std.proofs.lemmas.Str.{encodes-chars}
 use Rattle.sa_text.proofs.text.Text.into_bytes.Goals as goal
 
 pub returns-clause-bytes : goal.returns-clause-bytes
-returns-clause-bytes c = sym (encodes-chars c.self.inside.bytes.items c.self.invariant.0) ∙ ap encode_utf8_all c.self.view_is
+returns-clause-bytes c = sym (encodes-chars c.self.inside.bytes c.self.invariant.0) ∙ ap encode_utf8_all c.self.view_is

@@ -5,6 +5,6 @@ use Rattle.sa_text.proofs.text.Text.is_same.Goals as goal
 
 pub returns : goal.returns
 returns c =
-    c.eq.ensures
-    ∙ bytes_eq-chars c.self.inside.bytes.items c.other.inside.bytes.items c.self.invariant.0 c.other.invariant.0
+    c.is_same.ensures
+    ∙ bytes_eq-chars c.self.inside.bytes c.other.inside.bytes c.self.invariant.0 c.other.invariant.0
     ∙ ap₂ bytes_eq c.self.view_is c.other.view_is

@@ -1,8 +1,0 @@
--- No bytes are no code points.
-use Rattle.std.proofs.Common.{ap, ◌∙◌}
-use Rattle.std.specs.Str.{chars}
-use Rattle.std.proofs.lemmas.Str.{chars-nil}
-use Rattle.sa_text.proofs.text.Text.new.Goals as goal
-
-pub returns : goal.returns
-returns c = ap chars c.new.ensures.items ∙ chars-nil
