@@ -82,6 +82,19 @@ def stretched(calls):
     return head + b"".join(lines) + b"end\n", 8192 * sum(sizes)
 
 
+def peak_memory(program, script):
+    """The program's peak memory in KiB, none where /usr/bin/time is absent. A child that Python itself
+    starts begins with Python's own memory, so it is measured by a small process between the two."""
+    if not os.path.exists("/usr/bin/time"):
+        return None
+    with tempfile.TemporaryFile() as source, tempfile.NamedTemporaryFile() as told:
+        source.write(script)
+        source.seek(0)
+        command = ["/usr/bin/time", "-q", "-f", "%M", "-o", told.name, program, "serial"]
+        subprocess.call(command, stdin=source, stdout=subprocess.DEVNULL)
+        return int(told.read().split()[-1])
+
+
 def run(program, script):
     """The best wall time of three runs, the peak memory in KiB, the status and the report's bytes."""
     best = None
@@ -91,12 +104,15 @@ def run(program, script):
             source.seek(0)
             with tempfile.TemporaryFile() as sink:
                 start = time.perf_counter()
-                child = subprocess.Popen([program, "serial"], stdin=source, stdout=sink)
-                _, status, usage = os.wait4(child.pid, 0)
+                status = subprocess.call([program, "serial"], stdin=source, stdout=sink)
                 wall = time.perf_counter() - start
                 out = sink.seek(0, os.SEEK_END)
             best = wall if best is None else min(best, wall)
-    return best, usage.ru_maxrss, os.waitstatus_to_exitcode(status), out
+    return best, peak_memory(program, script), status, out
+
+
+def shown_memory(peak):
+    return f"{'-':>10}" if peak is None else f"{peak / 1024:>10.1f}"
 
 
 def main():
@@ -107,12 +123,12 @@ def main():
             script = make(mib * MIB)
             wall, peak, status, out = run(program, script)
             each = wall / (len(script) + out) * 1e9
-            print(f"{name:<10}{len(script) / MIB:>6.2f}{status:>8}{wall:>9.3f}{each:>11.1f}{peak / 1024:>10.1f}{out / MIB:>12.2f}")
+            print(f"{name:<10}{len(script) / MIB:>6.2f}{status:>8}{wall:>9.3f}{each:>11.1f}{shown_memory(peak)}{out / MIB:>12.2f}")
     print(f"{'stretched':<10}{'calls':>6}{'status':>8}{'wall s':>9}{'ns a byte':>11}{'peak MiB':>10}{'written MiB':>12}")
     for calls in (256, 512, 1024):
         script, written = stretched(calls)
         wall, peak, status, _ = run(program, script)
-        print(f"{'':<10}{calls:>6}{status:>8}{wall:>9.3f}{wall / written * 1e9:>11.1f}{peak / 1024:>10.1f}{written / MIB:>12.2f}")
+        print(f"{'':<10}{calls:>6}{status:>8}{wall:>9.3f}{wall / written * 1e9:>11.1f}{shown_memory(peak)}{written / MIB:>12.2f}")
 
 
 if __name__ == "__main__":
