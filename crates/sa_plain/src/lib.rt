@@ -1,9 +1,11 @@
-//! Items of arrays: lists of one kind, and lists of such lists.
+//! Items of arrays: lists of one kind, lists of such lists, and how a list is written.
 #![tactic(auto)]
 
 mod items;
+mod written;
 
 pub use items::{Items, ItemsList, ValueList};
+pub use written::push_items;
 
 #[cfg(test)]
 mod tests;

@@ -3,31 +3,15 @@ use Rattle.std.specs.Prelude.{ℕ, zero, suc, ◌+◌, ◌==◌, Bool, List, [],
 use Rattle.std.specs.List.{flat_map}
 use Rattle.sa_base.specs.declared.stats.Stats.{Stats}
 use Rattle.sa_lines.specs.Lines.{line}
-use Rattle.sa_lines.specs.Quotes.{quoted}
-use Rattle.sa_text.specs.declared.value.Value.{Value}
-use Rattle.sa_text.specs.declared.value.Value.TheVariants.{Missing, Of}
 use Rattle.sa_plain.specs.declared.items.Items.{Items}
-use Rattle.sa_plain.specs.declared.items.Items.TheVariants.{Values}
+use Rattle.sa_plain.specs.Written.{list_bytes}
 use Rattle.sa_script.specs.declared.call.Call.{Call}
 use Rattle.sa_script.specs.declared.reply.Reply.{Reply}
 use Rattle.sa_script.specs.declared.reply.Reply.TheVariants.{Done, Shown, Refused}
 use Rattle.sa_script.specs.Scripts.{Plan}
 use Rattle.sa_report.specs.Histories.{is_among}
 
--- a value of a list
-abbrev pub value_bytes : Value → List ℕ
-value_bytes Missing = codes "na"
-value_bytes (Of text) = quoted text
-
--- values with a comma between two of them
-abbrev pub commas : List Value → List ℕ
-commas [] = []
-commas (v ∷ vs) = value_bytes v ++ flat_map (λ w. 44 ∷ value_bytes w) vs
-
--- a list in brackets
-abbrev pub list_bytes : Items → List ℕ
-list_bytes (Values values) = 40 ∷ (commas values ++ 41 ∷ [])
-
+-- a reply
 abbrev pub reply_bytes : Reply → List ℕ
 reply_bytes Done = codes "done"
 reply_bytes (Shown items) = codes "shown " ++ list_bytes items

@@ -4,10 +4,10 @@ ghost use Rattle.sa_report.specs.Histories.{IsHistory};
 ghost use Rattle.sa_report.specs.Reports.{report_of, fault_line, spaced_pair, numbered, replies_of, task_line, task_block, task_lines, array_line, array_lines, stats_line, stats_lines};
 
 use crate::told::Told;
-use crate::writing::{push_bytes, push_call_line, push_items, push_pair};
+use crate::writing::{push_bytes, push_call_line, push_pair};
 use sa_base::{Memory, Stats};
 use sa_lines::push_decimal;
-use sa_plain::Items;
+use sa_plain::{Items, push_items};
 use sa_script::{CallList, Names, PairList, Reply, Script};
 use std::alloc::Global;
 

@@ -1,7 +1,7 @@
 use crate::fault_line;
-use crate::writing::{push_call_line, push_items, push_pair};
+use crate::writing::{push_call_line, push_pair};
 use sa_base::Memory;
-use sa_plain::{Items, ValueList};
+use sa_plain::{Items, ValueList, push_items};
 use sa_script::Reply;
 use sa_text::{Text, Value};
 use std::alloc::Global;

@@ -1,12 +1,10 @@
-ghost use Rattle.std.specs.Prelude.{◌≡◌, ◌++◌, ◌∷◌, [], OnOk};
-ghost use Rattle.std.specs.List.{flat_map};
-ghost use Rattle.sa_report.specs.Reports.{value_bytes, commas, list_bytes, reply_bytes, spaced_pair, call_line};
+ghost use Rattle.std.specs.Prelude.{◌≡◌, ◌++◌, OnOk};
+ghost use Rattle.sa_report.specs.Reports.{reply_bytes, spaced_pair, call_line};
 
 use sa_base::Memory;
-use sa_lines::{push_decimal, push_quoted};
-use sa_plain::Items;
+use sa_lines::push_decimal;
+use sa_plain::push_items;
 use sa_script::Reply;
-use sa_text::Value;
 
 /// Writes bytes at the end.
 pub fn push_bytes(out: &mut Vec<u8>, bytes: &[u8]) -> Result<(), Memory>
@@ -14,50 +12,6 @@ pub fn push_bytes(out: &mut Vec<u8>, bytes: &[u8]) -> Result<(), Memory>
 {
     out.extend_from_slice(bytes)?;
     Ok(())
-}
-
-/// Writes one value of a list.
-fn push_value(out: &mut Vec<u8>, value: &Value) -> Result<(), Memory>
-    ensures { OnOk result (out.new.items ≡ out.old.items ++ value_bytes value.now) }
-{
-    match value {
-        Value::Missing => push_bytes(out, b"na"),
-        Value::Of(text) => push_quoted(out, text.as_bytes()),
-    }
-}
-
-/// Writes values with a comma in front of each.
-fn push_further(out: &mut Vec<u8>, values: &[Value]) -> Result<(), Memory>
-    ensures { OnOk result (out.new.items ≡ out.old.items ++ flat_map (λ v. 44 ∷ value_bytes v) values.now) }
-{
-    for value in values {
-        push_bytes(out, b",")?;
-        push_value(out, value)?;
-    }
-    Ok(())
-}
-
-/// Writes values with a comma between two of them.
-fn push_values(out: &mut Vec<u8>, values: &[Value]) -> Result<(), Memory>
-    ensures { OnOk result (out.new.items ≡ out.old.items ++ commas values.now) }
-{
-    match values.split_first() {
-        None => Ok(()),
-        Some((first, others)) => {
-            push_value(out, first)?;
-            push_further(out, others)
-        }
-    }
-}
-
-/// Writes a list in brackets.
-pub fn push_items(out: &mut Vec<u8>, items: &Items) -> Result<(), Memory>
-    ensures { OnOk result (out.new.items ≡ out.old.items ++ list_bytes items.now) }
-{
-    let Items::Values(values) = items;
-    push_bytes(out, b"(")?;
-    push_values(out, values.as_slice())?;
-    push_bytes(out, b")")
 }
 
 /// Writes a reply.

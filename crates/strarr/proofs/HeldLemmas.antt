@@ -14,7 +14,7 @@ use Rattle.sa_text.specs.declared.text_error.TextError.TheVariants as errors
 use Rattle.sa_text.proofs.TextLemmas.{text_of-utf8}
 use Rattle.sa_alloc.specs.Layouts as layouts
 use Rattle.sa_alloc.specs.Layouts.{Layout, opening_layout, first_entry, value_at, value_in, put_all, stats_of}
-use Rattle.sa_alloc.specs.Stored.{Stored}
+use Rattle.sa_alloc.specs.StoreValues.{StoreValue}
 use Rattle.sa_alloc.specs.Stores.{AreDistinct, puts_from}
 use Rattle.sa_alloc.specs.Ties.{IsSmall}
 use Rattle.sa_plain.specs.declared.items.Items.TheVariants.{Values}
@@ -25,7 +25,7 @@ use Rattle.sa_script.specs.Decls.{Declared, IsDeclared, entries_of, entries_at}
 use Rattle.sa_script.specs.Effects.{home_of}
 use Rattle.sa_script.specs.Sound.{IsWhole}
 use Rattle.strarr.specs.Plays.{stats_in}
-use Rattle.strarr.specs.Worlds.{is_at, slot_of, lengths_of, values_at, counted_from, result_puts}
+use Rattle.strarr.specs.Worlds.{is_at, index_at_home, lengths_of, values_at, counted_from, result_puts}
 use Rattle.strarr.specs.Runs.{layouts_of, layout_at, strings_in, world_of, layouts_with, AreLayouts}
 use Rattle.strarr.proofs.DecideLemmas.{places_of_whole}
 use Rattle.strarr.proofs.PieceLemmas.{piece-at}
@@ -171,83 +171,83 @@ lent-is_text bytes utf8 short e = let f = text_of-utf8 bytes short utf8 in let g
 
 -- the store of a descriptor
 
-pub store-at : (stores : List Stored) (h : ℕ) (s : Stored) → h < length stores → s ≡ get_or stores h s → s.layout ≡ layout_at (layouts_of stores) h
-store-at stores h s below e = ap (λ (x : Stored). x.layout) e ∙ sym (get_or-map (λ (x : Stored). x.layout) stores h s (opening_layout []) below)
+pub store-at : (stores : List StoreValue) (h : ℕ) (s : StoreValue) → h < length stores → s ≡ get_or stores h s → s.contents.layout ≡ layout_at (layouts_of stores) h
+store-at stores h s below e = ap (λ (x : StoreValue). x.contents.layout) e ∙ sym (get_or-map (λ (x : StoreValue). x.contents.layout) stores h s (opening_layout []) below)
 
-pub record HomeFacts (d : Declared) (stores : List Stored) (array : ℕ) : Type 0 where
+pub record HomeFacts (d : Declared) (stores : List StoreValue) (array : ℕ) : Type 0 where
   pub home : home_of d array < length stores
-  pub slot : slot_of d array < length (layout_at (layouts_of stores) (home_of d array)).lengths
-  pub count : get_or (layout_at (layouts_of stores) (home_of d array)).lengths (slot_of d array) 0 ≡ length_at d.arrays array
+  pub slot : index_at_home d array < length (layout_at (layouts_of stores) (home_of d array)).lengths
+  pub count : get_or (layout_at (layouts_of stores) (home_of d array)).lengths (index_at_home d array) 0 ≡ length_at d.arrays array
   pub states : length (layout_at (layouts_of stores) (home_of d array)).states ≡ sum (layout_at (layouts_of stores) (home_of d array)).lengths
 
-pub home-facts : (d : Declared) (stores : List Stored) (array : ℕ) → IsDeclared d → AreLayouts d (layouts_of stores) → array < length d.arrays → HomeFacts d stores array
+pub home-facts : (d : Declared) (stores : List StoreValue) (array : ℕ) → IsDeclared d → AreLayouts d (layouts_of stores) → array < length d.arrays → HomeFacts d stores array
 home-facts d stores array declared are below =
     let h = home_of d array in
     let is = are.each h in
     let count = are.count in
-    let long : length (layouts_of stores) ≡ length stores = length-map stores (λ (s : Stored). s.layout) in
+    let long : length (layouts_of stores) ≡ length stores = length-map stores (λ (s : StoreValue). s.contents.layout) in
     let known = home_below (length d.descrs) d.arrays array declared.homes below in
     record {
       home = omega arith;
-      slot = subst (λ ns. slot_of d array < length ns) (sym is.lengths) (slot-within d array below);
-      count = ap (λ ns. get_or ns (slot_of d array) 0) is.lengths ∙ slot-length d array below;
+      slot = subst (λ ns. index_at_home d array < length ns) (sym is.lengths) (slot-within d array below);
+      count = ap (λ ns. get_or ns (index_at_home d array) 0) is.lengths ∙ slot-length d array below;
       states = is.states;
     }
 
 -- the stores once one has changed
-pub stores-put : (d : Declared) (stores : List Stored) (out : View) (s after : Stored) (values : List Value) → IsWhole d out → home_of d out.array < length stores → s ≡ get_or stores (home_of d out.array) s
-    → after.layout ≡ put_all s.layout (puts_from (first_entry s.layout.lengths (slot_of d out.array)) (zip (counted_from 0 out.count) values))
+pub stores-put : (d : Declared) (stores : List StoreValue) (out : View) (s after : StoreValue) (values : List Value) → IsWhole d out → home_of d out.array < length stores → s ≡ get_or stores (home_of d out.array) s
+    → after.contents.layout ≡ put_all s.contents.layout (puts_from (first_entry s.contents.layout.lengths (index_at_home d out.array)) (zip (counted_from 0 out.count) values))
     → layouts_of (set stores (home_of d out.array) after) ≡ layouts_with d (layouts_of stores) (Some out) (Some (Values values))
 stores-put d stores out s after values whole below s_is put =
     let h = home_of d out.array in
     let there = store-at stores h s below s_is in
-    let places : puts_from (first_entry s.layout.lengths (slot_of d out.array)) (zip (counted_from 0 out.count) values) ≡ result_puts d s.layout out (Values values) =
-    ap (λ ps. puts_from (first_entry s.layout.lengths (slot_of d out.array)) (zip ps values)) (sym (places_of_whole d out whole)) in
-    map-set (λ (x : Stored). x.layout) stores h after
-    ∙ ap (set (layouts_of stores) h) (put ∙ ap (put_all s.layout) places ∙ ap (λ l. put_all l (result_puts d l out (Values values))) there)
+    let places : puts_from (first_entry s.contents.layout.lengths (index_at_home d out.array)) (zip (counted_from 0 out.count) values) ≡ result_puts d s.contents.layout out (Values values) =
+    ap (λ ps. puts_from (first_entry s.contents.layout.lengths (index_at_home d out.array)) (zip ps values)) (sym (places_of_whole d out whole)) in
+    map-set (λ (x : StoreValue). x.contents.layout) stores h after
+    ∙ ap (set (layouts_of stores) h) (put ∙ ap (put_all s.contents.layout) places ∙ ap (λ l. put_all l (result_puts d l out (Values values))) there)
 
-pub stats-all : (d : Declared) (stores : List Stored) → AreLayouts d (layouts_of stores) → map (λ (s : Stored). stats_of s.layout) stores ≡ stats_in d (world_of (layouts_of stores))
+pub stats-all : (d : Declared) (stores : List StoreValue) → AreLayouts d (layouts_of stores) → map (λ (s : StoreValue). stats_of s.contents.layout) stores ≡ stats_in d (world_of (layouts_of stores))
 stats-all d stores are =
     let count = are.count in
-    let long : length (layouts_of stores) ≡ length stores = length-map stores (λ (s : Stored). s.layout) in
-    let none : Stored = record { layout = opening_layout []; keys = []; size = 0; spare = 0 } in
-    let all : length (map (λ (s : Stored). stats_of s.layout) stores) ≡ length stores = length-map stores (λ (s : Stored). stats_of s.layout) in
-    sym (counted_list (λ k. stats_of (layout_at (layouts_of stores) k)) (map (λ (s : Stored). stats_of s.layout) stores) (stats_of (opening_layout [])) 0 (length d.descrs) (omega arith)
-    (λ i h. ap stats_of (get_or-map (λ (s : Stored). s.layout) stores i none (opening_layout []) (omega arith)) ∙ sym (get_or-map (λ (s : Stored). stats_of s.layout) stores i none (stats_of (opening_layout [])) (omega arith))))
+    let long : length (layouts_of stores) ≡ length stores = length-map stores (λ (s : StoreValue). s.contents.layout) in
+    let none : StoreValue = record { contents = record { layout = opening_layout []; slots = []; texts = [] }; room = record { size = 0; spare = 0 } } in
+    let all : length (map (λ (s : StoreValue). stats_of s.contents.layout) stores) ≡ length stores = length-map stores (λ (s : StoreValue). stats_of s.contents.layout) in
+    sym (counted_list (λ k. stats_of (layout_at (layouts_of stores) k)) (map (λ (s : StoreValue). stats_of s.contents.layout) stores) (stats_of (opening_layout [])) 0 (length d.descrs) (omega arith)
+    (λ i h. ap stats_of (get_or-map (λ (s : StoreValue). s.contents.layout) stores i none (opening_layout []) (omega arith)) ∙ sym (get_or-map (λ (s : StoreValue). stats_of s.contents.layout) stores i none (stats_of (opening_layout [])) (omega arith))))
 
 -- an array in the layout of its home
-pub record AtHomeOf (d : Declared) (stores : List Stored) (array slot : ℕ) (l : Layout) : Type 0 where
+pub record AtHomeOf (d : Declared) (stores : List StoreValue) (array slot : ℕ) (l : Layout) : Type 0 where
   pub below : slot < length l.lengths
   pub count : get_or l.lengths slot 0 ≡ length_at d.arrays array
   pub states : length l.states ≡ sum l.lengths
   pub items : get_or (strings_in l) slot [] ≡ values_at d (world_of (layouts_of stores)) array
 
 -- an array in the store of its home
-pub record AtHome (d : Declared) (stores : List Stored) (array slot : ℕ) (s : Stored) : Type 0 where
-  pub below : slot < length s.layout.lengths
-  pub count : get_or s.layout.lengths slot 0 ≡ length_at d.arrays array
-  pub states : length s.layout.states ≡ sum s.layout.lengths
-  pub items : get_or (strings_in s.layout) slot [] ≡ values_at d (world_of (layouts_of stores)) array
+pub record AtHome (d : Declared) (stores : List StoreValue) (array slot : ℕ) (s : StoreValue) : Type 0 where
+  pub below : slot < length s.contents.layout.lengths
+  pub count : get_or s.contents.layout.lengths slot 0 ≡ length_at d.arrays array
+  pub states : length s.contents.layout.states ≡ sum s.contents.layout.lengths
+  pub items : get_or (strings_in s.contents.layout) slot [] ≡ values_at d (world_of (layouts_of stores)) array
 
-pub at-home : (d : Declared) (stores : List Stored) (array slot : ℕ) (s : Stored) (arrays : List ArrayDecl) → IsDeclared d → AreLayouts d (layouts_of stores) → array < length d.arrays → arrays ≡ d.arrays
-    → s ≡ get_or stores (array_at arrays array).home s → slot ≡ slot_of d array → AtHome d stores array slot s
+pub at-home : (d : Declared) (stores : List StoreValue) (array slot : ℕ) (s : StoreValue) (arrays : List ArrayDecl) → IsDeclared d → AreLayouts d (layouts_of stores) → array < length d.arrays → arrays ≡ d.arrays
+    → s ≡ get_or stores (array_at arrays array).home s → slot ≡ index_at_home d array → AtHome d stores array slot s
 at-home d stores array slot s arrays declared are below arrays_are s_is slot_is =
     let facts = home-facts d stores array declared are below in
     let here : s ≡ get_or stores (home_of d array) s = s_is ∙ ap (λ xs. get_or stores (array_at xs array).home s) arrays_are in
-    let there : s.layout ≡ layout_at (layouts_of stores) (home_of d array) = store-at stores (home_of d array) s facts.home here in
-    let it : AtHomeOf d stores array (slot_of d array) (layout_at (layouts_of stores) (home_of d array)) = record { below = facts.slot; count = facts.count; states = facts.states; items = refl } in
-    let moved = subst (λ l. AtHomeOf d stores array (slot_of d array) l) (sym there) it in
-    let all = subst (λ n. AtHomeOf d stores array n s.layout) (sym slot_is) moved in
+    let there : s.contents.layout ≡ layout_at (layouts_of stores) (home_of d array) = store-at stores (home_of d array) s facts.home here in
+    let it : AtHomeOf d stores array (index_at_home d array) (layout_at (layouts_of stores) (home_of d array)) = record { below = facts.slot; count = facts.count; states = facts.states; items = refl } in
+    let moved = subst (λ l. AtHomeOf d stores array (index_at_home d array) l) (sym there) it in
+    let all = subst (λ n. AtHomeOf d stores array n s.contents.layout) (sym slot_is) moved in
     record { below = all.below; count = all.count; states = all.states; items = all.items }
 
-pub put-home : (d : Declared) (stores : List Stored) (out : View) (slot : ℕ) (s after : Stored) (values : List Value) (arrays : List ArrayDecl) → IsDeclared d → AreLayouts d (layouts_of stores) → IsWhole d out → arrays ≡ d.arrays
-    → s ≡ get_or stores (array_at arrays out.array).home s → slot ≡ slot_of d out.array
-    → after.layout ≡ put_all s.layout (puts_from (first_entry s.layout.lengths slot) (zip (counted_from 0 out.count) values))
+pub put-home : (d : Declared) (stores : List StoreValue) (out : View) (slot : ℕ) (s after : StoreValue) (values : List Value) (arrays : List ArrayDecl) → IsDeclared d → AreLayouts d (layouts_of stores) → IsWhole d out → arrays ≡ d.arrays
+    → s ≡ get_or stores (array_at arrays out.array).home s → slot ≡ index_at_home d out.array
+    → after.contents.layout ≡ put_all s.contents.layout (puts_from (first_entry s.contents.layout.lengths slot) (zip (counted_from 0 out.count) values))
     → layouts_of (set stores (array_at arrays out.array).home after) ≡ layouts_with d (layouts_of stores) (Some out) (Some (Values values))
 put-home d stores out slot s after values arrays declared are whole arrays_are s_is slot_is put =
     let facts = home-facts d stores out.array declared are whole.declared in
     let here : s ≡ get_or stores (home_of d out.array) s = s_is ∙ ap (λ xs. get_or stores (array_at xs out.array).home s) arrays_are in
-    let put_here = put ∙ ap (λ n. put_all s.layout (puts_from (first_entry s.layout.lengths n) (zip (counted_from 0 out.count) values))) slot_is in
+    let put_here = put ∙ ap (λ n. put_all s.contents.layout (puts_from (first_entry s.contents.layout.lengths n) (zip (counted_from 0 out.count) values))) slot_is in
     ap (λ xs. layouts_of (set stores (array_at xs out.array).home after)) arrays_are ∙ stores-put d stores out s after values whole facts.home here put_here
 
 pub on-ok : {T E P Q : Type 0} → (r : Result T E) → (P → Q) → OnOk r P → OnOk r Q

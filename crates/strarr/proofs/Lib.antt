@@ -4,6 +4,7 @@ pub mod EndingLemmas
 pub mod HeldLemmas
 pub mod PieceLemmas
 pub mod PlayLemmas
+pub mod RefusalLemmas
 pub mod RunLemmas
 pub mod SlotLemmas
 pub mod StreamLemmas

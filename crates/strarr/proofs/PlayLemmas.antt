@@ -23,7 +23,7 @@ use Rattle.sa_report.specs.Histories.{calls_of, unmarked, IsHistory}
 use Rattle.sa_plain.specs.declared.items.Items.{Items}
 use Rattle.strarr.specs.Plays.{call_at, replies_to, world_left, play_replies, play_world, pairs_from, serial_from, serial}
 use Rattle.strarr.specs.Runs.{world_of, layout_at, layouts_with, layouts_after, layouts_left, opening_layouts, outcome_held, outcome_with, AreLayouts}
-use Rattle.strarr.specs.Worlds.{World, is_at, slot_of, counted_from, values_at, with_results, outcome_in, reply_in, world_after, opening}
+use Rattle.strarr.specs.Worlds.{World, is_at, index_at_home, counted_from, values_at, with_results, outcome_in, reply_in, world_after, opening}
 use Rattle.strarr.proofs.DecideLemmas.{outcome_set, results_length, length-stretched}
 use Rattle.strarr.proofs.WorldLemmas.{Goes, goes-none, goes-with, opening-goes, slot-within, slot-length}
 use Rattle.strarr.proofs.HeldLemmas.{length-strings, shows-entry}
@@ -274,7 +274,7 @@ shown-left d tasks w (p ∷ ps) declared valid shown = shown-left d tasks (world
 shows-items : (d : Declared) (held : List Layout) (array : ℕ) → AreLayouts d held → array < length d.arrays → ShowsItems d (world_of held) array
 shows-items d held array are below =
     let h = home_of d array in
-    let slot = slot_of d array in
+    let slot = index_at_home d array in
     let l = layout_at held h in
     let is = are.each h in
     let inside : slot < length l.lengths = subst (λ ns. slot < length ns) (sym is.lengths) (slot-within d array below) in
@@ -306,10 +306,10 @@ leaves-with d w out (Some items) array known below apart = go (eqb (home_of d ou
     go true e =
         let home : home_of d out.array ≡ home_of d array = eqb-true (home_of d out.array) (home_of d array) e in
         let here : is_at (home_of d array) (array_at d.arrays out.array) ≡ true = e in
-        let other : slot_of d array ≡ slot_of d out.array → ⊥ = λ same.
+        let other : index_at_home d array ≡ index_at_home d out.array → ⊥ = λ same.
         slots_apart (is_at (home_of d array)) d.arrays array out.array no_array below known (at_home d array) here (λ one. let yes = eq-eqb out.array array (sym one) in cc)
         (same ∙ ap (λ h. count_by (is_at h) (take out.array d.arrays)) home) in
-        rw e (get_or-set_other (w (home_of d array)).strings (slot_of d out.array) (slot_of d array) _ [] other)
+        rw e (get_or-set_other (w (home_of d array)).strings (index_at_home d out.array) (index_at_home d array) _ [] other)
 
 leaves-homes : (d : Declared) (w : World) (out : View) (results : Option Items) (h : ℕ) → eqb (home_of d out.array) h ≡ false → with_results d w (Some out) results h ≡ w h
 leaves-homes d w out None h apart = refl

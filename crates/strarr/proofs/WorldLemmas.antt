@@ -21,7 +21,7 @@ use Rattle.sa_script.specs.Contexts.{length_at}
 use Rattle.sa_script.specs.Decls.{Declared, IsDeclared}
 use Rattle.sa_script.specs.Effects.{home_of}
 use Rattle.sa_script.specs.Sound.{IsWhole}
-use Rattle.strarr.specs.Worlds.{State, World, is_at, slot_of, lengths_of, values_at, opening, counted_from, put_results, result_puts, with_results}
+use Rattle.strarr.specs.Worlds.{State, World, is_at, index_at_home, lengths_of, values_at, opening, counted_from, put_results, result_puts, with_results}
 use Rattle.strarr.specs.Runs.{layout_at, pieces, strings_in, world_of, layouts_with, opening_layouts, IsLayout, AreLayouts}
 use Rattle.strarr.proofs.PieceLemmas.{spliced, pieces-spliced, piece-at, pieces-replicate}
 use Rattle.strarr.proofs.DecideLemmas.{places_of_whole, put_results_whole}
@@ -81,14 +81,14 @@ puts-on l first k (v ∷ vs) sound within =
 pub length-lengths : (d : Declared) (h : ℕ) → length (lengths_of d h) ≡ length (filter (is_at h) d.arrays)
 length-lengths d h = length-map (filter (is_at h) d.arrays) (λ (a : ArrayDecl). a.len)
 
-pub slot-within : (d : Declared) (a : ℕ) → a < length d.arrays → slot_of d a < length (lengths_of d (home_of d a))
+pub slot-within : (d : Declared) (a : ℕ) → a < length d.arrays → index_at_home d a < length (lengths_of d (home_of d a))
 slot-within d a below =
     let room = slot_below (is_at (home_of d a)) d.arrays a no_array below (at_home d a) in
     let long = length-lengths d (home_of d a) in
     let count = length-filter (is_at (home_of d a)) d.arrays in
     omega arith
 
-pub slot-length : (d : Declared) (a : ℕ) → a < length d.arrays → get_or (lengths_of d (home_of d a)) (slot_of d a) 0 ≡ length_at d.arrays a
+pub slot-length : (d : Declared) (a : ℕ) → a < length d.arrays → get_or (lengths_of d (home_of d a)) (index_at_home d a) 0 ≡ length_at d.arrays a
 slot-length d a below = kept_at (λ (x : ArrayDecl). x.len) (is_at (home_of d a)) d.arrays a no_array 0 below (at_home d a)
 
 -- the arrays of a home lie within its layout
@@ -98,11 +98,11 @@ sum-within ns k below = sum_by_more_le (λ x. x) ns k 0 below
 -- results that are put into a whole array of a home's layout
 pub record PutsWhole (d : Declared) (l : Layout) (out : View) (vs : List Value) (ps : List (ℕ × Value)) : Type 0 where
   pub layout : IsLayout d (home_of d out.array) (put_all l ps)
-  pub strings : strings_in (put_all l ps) ≡ set (strings_in l) (slot_of d out.array) vs
+  pub strings : strings_in (put_all l ps) ≡ set (strings_in l) (index_at_home d out.array) vs
 
 pub puts-whole : (d : Declared) (l : Layout) (out : View) (vs : List Value) → IsLayout d (home_of d out.array) l → IsWhole d out → length vs ≡ out.count → PutsWhole d l out vs (result_puts d l out (Values vs))
 puts-whole d l out vs is whole many =
-    let slot = slot_of d out.array in
+    let slot = index_at_home d out.array in
     let first = first_entry l.lengths slot in
     let below : slot < length l.lengths = subst (λ ns. slot < length ns) (sym is.lengths) (slot-within d out.array whole.declared) in
     let len : get_or l.lengths slot 0 ≡ length vs = ap (λ ns. get_or ns slot 0) is.lengths ∙ slot-length d out.array whole.declared ∙ sym whole.all ∙ sym many in
@@ -141,7 +141,7 @@ layouts-set d ls h l are below is = record {
 pub length-values_at : (d : Declared) (ls : List Layout) (v : View) → AreLayouts d ls → IsWhole d v → length (values_at d (world_of ls) v.array) ≡ v.count
 length-values_at d ls v are whole =
     let h = home_of d v.array in
-    let slot = slot_of d v.array in
+    let slot = index_at_home d v.array in
     let l = layout_at ls h in
     let is = are.each h in
     let below : slot < length l.lengths = subst (λ ns. slot < length ns) (sym is.lengths) (slot-within d v.array whole.declared) in
@@ -178,7 +178,7 @@ goes-with d ls out vs declared are whole many =
 
     at : (k : ℕ) → ((eqb (home_of d out.array) k ≡ true) × (home_of d out.array ≡ k)) ⊎ ((eqb (home_of d out.array) k ≡ false) × (home_of d out.array ≢ k))
         → put_results (values_at d (world_of ls) out.array) out (Values vs) ≡ vs
-        → strings_in (put_all (layout_at ls (home_of d out.array)) (result_puts d (layout_at ls (home_of d out.array)) out (Values vs))) ≡ set (strings_in (layout_at ls (home_of d out.array))) (slot_of d out.array) vs
+        → strings_in (put_all (layout_at ls (home_of d out.array)) (result_puts d (layout_at ls (home_of d out.array)) out (Values vs))) ≡ set (strings_in (layout_at ls (home_of d out.array))) (index_at_home d out.array) vs
         → home_of d out.array < length d.descrs
         → world_of after k ≡ with_results d (world_of ls) (Some out) (Some (Values vs)) k
     at k (inl w) put_is strings below =
@@ -187,11 +187,11 @@ goes-with d ls out vs declared are whole many =
         let l1 = put_all l (result_puts d l out (Values vs)) in
         let count = are.count in
         let there : layout_at after h ≡ l1 = get_or-set_same ls h l1 (opening_layout []) (omega arith) in
-        let here : world_of after h ≡ (let s : State = record { strings = set (strings_in l) (slot_of d out.array) (put_results (values_at d (world_of ls) out.array) out (Values vs)); layout = l1 } in s) =
+        let here : world_of after h ≡ (let s : State = record { strings = set (strings_in l) (index_at_home d out.array) (put_results (values_at d (world_of ls) out.array) out (Values vs)); layout = l1 } in s) =
         ap (λ x. let s : State = record { strings = strings_in x; layout = x } in s) there
-        ∙ ap (λ x. let s : State = record { strings = x; layout = l1 } in s) (strings ∙ ap (set (strings_in l) (slot_of d out.array)) (sym put_is)) in
+        ∙ ap (λ x. let s : State = record { strings = x; layout = l1 } in s) (strings ∙ ap (set (strings_in l) (index_at_home d out.array)) (sym put_is)) in
         let same : eqb h h ≡ true = eq-eqb h h refl in
-        let right : with_results d (world_of ls) (Some out) (Some (Values vs)) h ≡ (let s : State = record { strings = set (strings_in l) (slot_of d out.array) (put_results (values_at d (world_of ls) out.array) out (Values vs)); layout = l1 } in s) = rw same refl in
+        let right : with_results d (world_of ls) (Some out) (Some (Values vs)) h ≡ (let s : State = record { strings = set (strings_in l) (index_at_home d out.array) (put_results (values_at d (world_of ls) out.array) out (Values vs)); layout = l1 } in s) = rw same refl in
         subst (λ j. world_of after j ≡ with_results d (world_of ls) (Some out) (Some (Values vs)) j) w.1 (here ∙ sym right)
     at k (inr w) put_is strings below =
         let h = home_of d out.array in

@@ -10,14 +10,14 @@ use Rattle.sa_script.specs.Sound.{IsCall, AreCalls}
 use Rattle.sa_script.specs.declared.call.Call.{Call}
 use Rattle.sa_script.specs.declared.call.View.{View}
 use Rattle.strarr.specs.Plays.{play_world}
-use Rattle.strarr.specs.Worlds.{World, lengths_of, slot_of, values_at, output_is_at, world_after}
+use Rattle.strarr.specs.Worlds.{World, lengths_of, index_at_home, values_at, output_is_at, world_after}
 
 -- an array of a world has as many items as declared, and the layout of its home has the value of each in its entry
 pub record ShowsItems (decls : Declared) (w : World) (array : ℕ) : Type 0 where
   pub lengths : (w (home_of decls array)).layout.lengths ≡ lengths_of decls (home_of decls array)
   pub count : length (values_at decls w array) ≡ length_at decls.arrays array
   pub items : (place : ℕ) → place < length_at decls.arrays array
-      → value_at (w (home_of decls array)).layout (first_entry (lengths_of decls (home_of decls array)) (slot_of decls array) + place) ≡ slice_index_or (values_at decls w array) place Missing
+      → value_at (w (home_of decls array)).layout (first_entry (lengths_of decls (home_of decls array)) (index_at_home decls array) + place) ≡ slice_index_or (values_at decls w array) place Missing
 
 -- In each world that a play of a script gives, the layouts have the items of the arrays.
 abbrev pub LayoutsShowItems : Type 0

@@ -2,7 +2,7 @@
 use Rattle.std.specs.Prelude.{◌≡◌, ℕ, nat_lt, Bool, if◌then◌else◌, List, [], ◌∷◌, length, map, take, drop, sum, slice_index_or, slice_set, Option, Some, None}
 use Rattle.sa_text.specs.declared.value.Value.{Value}
 use Rattle.sa_alloc.specs.Layouts.{Layout, IsSound, opening_layout, put_all, values_of}
-use Rattle.sa_alloc.specs.Stored.{Stored}
+use Rattle.sa_alloc.specs.StoreValues.{StoreValue}
 use Rattle.sa_plain.specs.declared.items.Items.{Items}
 use Rattle.sa_script.specs.declared.call.View.{View}
 use Rattle.sa_script.specs.declared.call.Call.{Call}
@@ -14,8 +14,8 @@ use Rattle.sa_script.specs.Decls.{Declared}
 use Rattle.strarr.specs.Worlds.{World, lengths_of, values_at, outcome_in, result_puts, counted_from}
 
 -- the layouts of stores
-abbrev pub layouts_of : List Stored → List Layout
-layouts_of stores = map (λ (s : Stored). s.layout) stores
+abbrev pub layouts_of : List StoreValue → List Layout
+layouts_of stores = map (λ (s : StoreValue). s.contents.layout) stores
 
 -- the layout of a descriptor; one of no arrays where there is none
 abbrev pub layout_at : List Layout → ℕ → Layout

@@ -36,12 +36,12 @@ abbrev pub is_at : ℕ → ArrayDecl → Bool
 is_at home a = a.home == home
 
 -- the place of an array among those of its home
-abbrev pub slot_of : Declared → ℕ → ℕ
-slot_of decls array = count_by (is_at (home_of decls array)) (take array decls.arrays)
+abbrev pub index_at_home : Declared → ℕ → ℕ
+index_at_home decls array = count_by (is_at (home_of decls array)) (take array decls.arrays)
 
 -- the items of an array in a world
 abbrev pub values_at : Declared → World → ℕ → List Value
-values_at decls w array = slice_index_or (w (home_of decls array)).strings (slot_of decls array) []
+values_at decls w array = slice_index_or (w (home_of decls array)).strings (index_at_home decls array) []
 
 -- the lengths of a descriptor's arrays, in order of declaration
 abbrev pub lengths_of : Declared → ℕ → List ℕ
@@ -54,7 +54,7 @@ opening decls d = record { strings = map (λ a. replicate a.len (Of [])) (filter
 -- a view as places of its home
 abbrev pub places_in : Declared → View → List ℕ → List Place
 places_in decls v [] = []
-places_in decls v (p ∷ ps) = record { is_strings = true; array = slot_of decls v.array; place = p } ∷ places_in decls v ps
+places_in decls v (p ∷ ps) = record { is_strings = true; array = index_at_home decls v.array; place = p } ∷ places_in decls v ps
 
 abbrev pub paired : List Place → List Value → List (Place × Item)
 paired [] values = []
@@ -124,7 +124,7 @@ put_results values out results = put_at values (places_of out) (values_of result
 
 -- the puts of results into the layout of the output's home, in the order of its places
 abbrev pub result_puts : Declared → Layout → View → Items → List (ℕ × Value)
-result_puts decls l out results = puts_from (first_entry l.lengths (slot_of decls out.array)) (zip (places_of out) (values_of results))
+result_puts decls l out results = puts_from (first_entry l.lengths (index_at_home decls out.array)) (zip (places_of out) (values_of results))
 
 abbrev pub with_results : Declared → World → Option View → Option Items → World
 with_results decls w None results = w
@@ -132,7 +132,7 @@ with_results decls w (Some out) None = w
 with_results decls w (Some out) (Some results) =
     λ d. if home_of decls out.array == d
     then record {
-      strings = slice_set (w d).strings (slot_of decls out.array) (put_results (values_at decls w out.array) out results);
+      strings = slice_set (w d).strings (index_at_home decls out.array) (put_results (values_at decls w out.array) out results);
       layout = put_all (w d).layout (result_puts decls (w d).layout out results);
     }
     else w d

@@ -1,13 +1,11 @@
-ghost use Rattle.std.specs.Prelude.{◌≡◌, ◌≤◌, ◌<◌, ◌^◌, length, slice_index_or, IfOk, Some};
-ghost use Rattle.sa_text.specs.declared.value.Value.TheVariants.{Missing};
-ghost use Rattle.sa_script.specs.Effects.{stretched, refused, refusal_of, forbids};
+ghost use Rattle.std.specs.Prelude.{◌≡◌, ◌≤◌, ◌<◌, ◌^◌, length, Some};
+ghost use Rattle.sa_text.specs.Values.{stretched, weight_of};
+ghost use Rattle.sa_script.specs.Effects.{refused, refusal_of, forbids};
+ghost use Rattle.sa_script.specs.Limits.{most_weight};
 
-use sa_base::Memory;
 use sa_descr::rule_of;
-use sa_plain::ValueList;
 use sa_script::{Decls, Refusal, View};
 use sa_text::{Value, stretched_at, stretched_len, value_weight};
-use std::alloc::Global;
 
 /// The most that one call weighs.
 pub const MOST_WEIGHT: u64 = 1_048_576;
@@ -23,7 +21,7 @@ pub fn forbids(decls: &Decls, out: &View) -> bool
 
 /// Why a result that follows this weight is refused, if it is.
 fn refusal_of(forbidden: bool, weight: u64, value: &Value) -> Option<Refusal>
-    requires { weight ≤ 1048576 }
+    requires { weight ≤ most_weight }
     ensures { result ≡ refusal_of forbidden weight value.now }
 {
     if forbidden && value.is_missing() {
@@ -35,15 +33,39 @@ fn refusal_of(forbidden: bool, weight: u64, value: &Value) -> Option<Refusal>
     }
 }
 
-/// The first refusal among values that are stretched to a count: a missing value that is forbidden,
-/// or one with which the weight passes its limit.
-pub fn first_refusal(
+/// Why results are refused that follow this weight and are values stretched to a count: the first that
+/// is missing where that is forbidden, or with which the weight passes its limit. Where neither can be,
+/// no value is looked at.
+pub fn results_refusal(
     forbidden: bool,
     weight: u64,
     count: usize,
     values: &[Value],
 ) -> Option<(Refusal, u32)>
-    requires light { weight ≤ 1048576 }
+    requires weight { weight ≡ weight_of values.now }
+    requires light { weight ≤ most_weight }
+    requires few { (count ≤ 8192) × (length (stretched count values.now) ≤ 8192) }
+    ensures { result ≡ refused forbidden weight 0 (stretched count values.now) }
+{
+    let results = match values {
+        [_] => count as u64 * weight,
+        _ => weight,
+    };
+    if !forbidden && weight + results <= MOST_WEIGHT {
+        return None;
+    }
+    first_refusal(forbidden, weight, count, values)
+}
+
+/// The first refusal among values that are stretched to a count: a missing value that is forbidden,
+/// or one with which the weight passes its limit.
+fn first_refusal(
+    forbidden: bool,
+    weight: u64,
+    count: usize,
+    values: &[Value],
+) -> Option<(Refusal, u32)>
+    requires light { weight ≤ most_weight }
     requires few { length (stretched count values.now) < 2 ^ 32 }
     ensures { result ≡ refused forbidden weight 0 (stretched count values.now) }
 {
@@ -56,15 +78,4 @@ pub fn first_refusal(
         weight += value_weight(value);
     }
     None
-}
-
-/// Copies of values, stretched to a count.
-pub fn repeated(alloc: Global, count: usize, values: &[Value]) -> Result<ValueList, Memory>
-    ensures { IfOk result (λ v. v ≡ stretched count values.now) }
-{
-    let mut copies = ValueList::new(alloc);
-    for k in 0..stretched_len(count, values) {
-        copies.push(stretched_at(count, values, k).copy(alloc)?)?;
-    }
-    Ok(copies)
 }

@@ -1,16 +1,18 @@
 ghost use Rattle.std.specs.Prelude.{◌≡◌, ◌≤◌, ◌<◌, ◌++◌, ◌^◌, length, IfOk, OnOk, Some, None, false};
 ghost use Rattle.std.specs.List.{AllByRecursion};
-ghost use Rattle.sa_text.specs.Values.{weight_of};
+ghost use Rattle.sa_text.specs.Values.{weight_of, stretched};
 ghost use Rattle.sa_plain.specs.declared.items.Items.TheVariants.{Values};
-ghost use Rattle.sa_script.specs.Effects.{forbids, stretched, refused_with};
+ghost use Rattle.sa_script.specs.Effects.{forbids, refused_with};
 ghost use Rattle.sa_script.specs.Decls.{IsDeclared};
 ghost use Rattle.sa_script.specs.Sound.{IsCall, IsWhole};
 ghost use Rattle.strarr.specs.Worlds.{values_at, reply_in};
 ghost use Rattle.strarr.specs.Plays.{pairs_from, serial, replies_to, play_replies, play_world, contents_of, stats_in};
 ghost use Rattle.strarr.specs.Runs.{layouts_of, world_of, layouts_with, layouts_after, layouts_left, outcome_with, AreLayouts};
 
-use crate::deciding::{MOST_WEIGHT, first_refusal, forbids, repeated};
-use crate::stores::{array_values, array_weight, contents, opening_stores, put, statistics};
+use crate::deciding::{MOST_WEIGHT, forbids, results_refusal};
+use crate::stores::{
+    array_values, array_weight, contents, opening_stores, put, shown_refusal, statistics,
+};
 use sa_alloc::Store;
 use sa_base::Memory;
 use sa_plain::Items;
@@ -123,36 +125,16 @@ fn set(
     if weight > MOST_WEIGHT {
         return Ok(refused(Refusal::TooMuch, 0));
     }
-    match first_refusal(forbids(decls, out), weight, out.count as usize, values) {
+    match results_refusal(forbids(decls, out), weight, out.count as usize, values) {
         Some((cause, at)) => Ok(refused(cause, at)),
         None => {
-            put_stretched(alloc, decls, stores, out, values)?;
+            put(alloc, decls, stores, out, values)?;
             Ok(Reply::Done)
         }
     }
 }
 
-/// Puts values into an output, stretched to its length.
-fn put_stretched(
-    alloc: Global,
-    decls: &Decls,
-    stores: &mut Vec<Store>,
-    out: &View,
-    values: &[Value],
-) -> Result<(), Memory>
-    requires layouts { AreLayouts decls.now (layouts_of stores.old.items) }
-    requires whole { IsWhole decls.now out.now }
-    requires fits { length (stretched out.now.count values.now) ≡ out.now.count }
-    ensures { OnOk result (layouts_of stores.new.items ≡ layouts_with decls.now (layouts_of stores.old.items) (Some out.now) (Some (Values (stretched out.now.count values.now)))) }
-{
-    if values.len() == out.count as usize {
-        return put(alloc, decls, stores, out, values);
-    }
-    let copies = repeated(alloc, out.count as usize, values)?;
-    put(alloc, decls, stores, out, copies.as_slice())
-}
-
-/// Answers the items of an array, or is refused. Items that weigh too much are not copied.
+/// Answers the items of an array, or is refused; then none is copied.
 fn show(alloc: Global, decls: &Decls, stores: &[Store], array: u32) -> Result<Reply, Memory>
     requires array { array < length decls.now.arrays }
     requires layouts { AreLayouts decls.now (layouts_of stores.now) }
@@ -163,10 +145,10 @@ fn show(alloc: Global, decls: &Decls, stores: &[Store], array: u32) -> Result<Re
     if weight > MOST_WEIGHT {
         return Ok(refused(Refusal::TooMuch, 0));
     }
-    let values = array_values(alloc, decls, stores, array)?;
-    if let Some((cause, at)) = first_refusal(false, weight, values.len(), values.as_slice()) {
+    if let Some((cause, at)) = shown_refusal(decls, stores, array, weight) {
         return Ok(refused(cause, at));
     }
+    let values = array_values(alloc, decls, stores, array)?;
     Ok(Reply::Shown(Items::Values(values)))
 }
 

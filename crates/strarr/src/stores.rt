@@ -1,24 +1,24 @@
-ghost use Rattle.std.specs.Prelude.{ℕ, ◌≡◌, ◌+◌, ◌≤◌, ◌<◌, ◌^◌, [], length, map, sum, zip, slice_index, slice_index_or, count_by, IfOk, OnOk, Some};
-ghost use Rattle.sa_text.specs.Values.{weight_of, value_weight};
-ghost use Rattle.sa_alloc.specs.Layouts.{value_at, first_entry, put_all, stats_of};
-ghost use Rattle.sa_alloc.specs.Stores.{IsPlace, puts_from};
+ghost use Rattle.std.specs.Prelude.{ℕ, ◌≡◌, ◌<◌, ◌≤◌, ◌^◌, [], length, map, zip, slice_index, slice_index_or, count_by, false, IfOk, OnOk, Some};
+ghost use Rattle.sa_text.specs.Values.{weight_of, stretched};
+ghost use Rattle.sa_alloc.specs.Layouts.{first_entry, put_all, stats_of};
+ghost use Rattle.sa_alloc.specs.Stores.{puts_from};
 ghost use Rattle.sa_plain.specs.declared.items.Items.TheVariants.{Values};
 ghost use Rattle.sa_script.specs.Decls.{IsDeclared};
+ghost use Rattle.sa_script.specs.Effects.{refused};
+ghost use Rattle.sa_script.specs.Limits.{most_weight};
 ghost use Rattle.sa_script.specs.Sound.{IsWhole};
-ghost use Rattle.strarr.specs.Worlds.{is_at, slot_of, lengths_of, values_at, counted_from};
+ghost use Rattle.strarr.specs.Worlds.{is_at, index_at_home, lengths_of, values_at, counted_from};
 ghost use Rattle.strarr.specs.Plays.{contents_of, stats_in};
 ghost use Rattle.strarr.specs.Runs.{layouts_of, world_of, layouts_with, opening_layouts, strings_in, AreLayouts};
 
-use sa_alloc::{Seen, Store};
+use crate::deciding::MOST_WEIGHT;
+use sa_alloc::Store;
 use sa_base::Memory;
 use sa_plain::{Items, ItemsList, ValueList};
 use sa_report::StatsList;
-use sa_script::{ArrayDecl, Decls, View};
-use sa_text::{Text, TextError, Value};
+use sa_script::{ArrayDecl, Decls, Refusal, View};
+use sa_text::Value;
 use std::alloc::Global;
-
-/// What each value weighs beside the bytes of its text.
-const ITEM_WEIGHT: u64 = 16;
 
 /// The store of each descriptor before the first call.
 pub fn opening_stores(alloc: Global, decls: &Decls) -> Result<Vec<Store>, Memory>
@@ -47,10 +47,10 @@ fn lengths_of(alloc: Global, decls: &Decls, home: usize) -> Result<Vec<u32>, Mem
     Ok(lengths)
 }
 
-/// The place of an array among those of its home.
-fn slot_of(decls: &Decls, array: u32) -> u32
+/// The number of an array among those of its home.
+fn index_at_home(decls: &Decls, array: u32) -> u32
     requires { array < length decls.now.arrays }
-    ensures { result ≡ slot_of decls.now array }
+    ensures { result ≡ index_at_home decls.now array }
 {
     let arrays = decls.arrays();
     count_at(&arrays[..array as usize], arrays[array as usize].home)
@@ -70,58 +70,20 @@ fn count_at(arrays: &[ArrayDecl], home: u8) -> u32
     count
 }
 
-/// What one entry weighs.
-fn entry_weight(store: &Store, slot: u32, place: u32) -> u64
-    requires { IsPlace store.now.layout.lengths slot place }
-    ensures weight { result ≡ value_weight (value_at store.now.layout (first_entry store.now.layout.lengths slot + place)) }
-    ensures most { result ≤ 65552 }
-{
-    match store.load(slot, place) {
-        Seen::Missing => ITEM_WEIGHT,
-        Seen::Bytes(bytes) => ITEM_WEIGHT + bytes.len() as u64,
-    }
-}
-
-/// The value of one entry, copied.
-fn entry_value(alloc: Global, store: &Store, slot: u32, place: u32) -> Result<Value, Memory>
-    requires { IsPlace store.now.layout.lengths slot place }
-    ensures { IfOk result (λ v. v ≡ value_at store.now.layout (first_entry store.now.layout.lengths slot + place)) }
-{
-    match store.load(slot, place) {
-        Seen::Missing => Ok(Value::Missing),
-        Seen::Bytes(bytes) => match Text::from_bytes(alloc, bytes) {
-            Ok(text) => Ok(Value::Of(text)),
-            Err(TextError::Memory) => Err(Memory),
-            Err(TextError::TooLong) => unreachable!(),
-            Err(TextError::NotUtf8) => unreachable!(),
-        },
-    }
-}
-
 /// What the items of one array of a store weigh. None is copied.
-fn weight_at(store: &Store, slot: u32) -> u64
-    requires slot { slot < length store.now.layout.lengths }
-    requires states { length store.now.layout.states ≡ sum store.now.layout.lengths }
-    ensures { result ≡ weight_of (slice_index_or (strings_in store.now.layout) slot []) }
+fn weight_at(store: &Store, index: u32) -> u64
+    requires { index < length store.now.contents.layout.lengths }
+    ensures { result ≡ weight_of (slice_index_or (strings_in store.now.contents.layout) index []) }
 {
-    let mut weight = 0u64;
-    for place in 0..store.lengths()[slot as usize] {
-        weight += entry_weight(store, slot, place);
-    }
-    weight
+    store.weight(index)
 }
 
 /// The items of one array of a store, copied.
-fn values_at(alloc: Global, store: &Store, slot: u32) -> Result<ValueList, Memory>
-    requires slot { slot < length store.now.layout.lengths }
-    requires states { length store.now.layout.states ≡ sum store.now.layout.lengths }
-    ensures { IfOk result (λ values. values ≡ slice_index_or (strings_in store.now.layout) slot []) }
+fn values_at(alloc: Global, store: &Store, index: u32) -> Result<ValueList, Memory>
+    requires { index < length store.now.contents.layout.lengths }
+    ensures { IfOk result (λ values. values ≡ slice_index_or (strings_in store.now.contents.layout) index []) }
 {
-    let mut values = ValueList::new(alloc);
-    for place in 0..store.lengths()[slot as usize] {
-        values.push(entry_value(alloc, store, slot, place)?)?;
-    }
-    Ok(values)
+    Ok(ValueList::from_vec(store.values(alloc, index)?))
 }
 
 /// What the items of an array weigh.
@@ -131,7 +93,39 @@ pub fn array_weight(decls: &Decls, stores: &[Store], array: u32) -> u64
     ensures { result ≡ weight_of (values_at decls.now (world_of (layouts_of stores.now)) array) }
 {
     let home = decls.arrays()[array as usize].home;
-    weight_at(&stores[home as usize], slot_of(decls, array))
+    weight_at(&stores[home as usize], index_at_home(decls, array))
+}
+
+/// The first refusal among the items of an array that are answered, behind their own weight. None is
+/// copied, and where they weigh at most half of what a call may none is looked at.
+pub fn shown_refusal(decls: &Decls, stores: &[Store], array: u32, weight: u64) -> Option<(Refusal, u32)>
+    requires array { array < length decls.now.arrays }
+    requires layouts { AreLayouts decls.now (layouts_of stores.now) }
+    requires weight { weight ≡ weight_of (values_at decls.now (world_of (layouts_of stores.now)) array) }
+    requires light { weight ≤ most_weight }
+    ensures { result ≡ refused false weight 0 (values_at decls.now (world_of (layouts_of stores.now)) array) }
+{
+    if weight + weight <= MOST_WEIGHT {
+        return None;
+    }
+    let home = decls.arrays()[array as usize].home;
+    first_heavy(&stores[home as usize], index_at_home(decls, array), weight)
+}
+
+/// The first refusal among the items of one array of a store, behind this weight.
+fn first_heavy(store: &Store, index: u32, weight: u64) -> Option<(Refusal, u32)>
+    requires index { index < length store.now.contents.layout.lengths }
+    requires light { weight ≤ most_weight }
+    ensures { result ≡ refused false weight 0 (slice_index_or (strings_in store.now.contents.layout) index []) }
+{
+    let mut total = weight;
+    for place in 0..store.lengths()[index as usize] {
+        total += store.value_weight(index, place);
+        if total > MOST_WEIGHT {
+            return Some((Refusal::TooMuch, place));
+        }
+    }
+    None
 }
 
 /// The items of an array, copied.
@@ -146,10 +140,10 @@ pub fn array_values(
     ensures { IfOk result (λ values. values ≡ values_at decls.now (world_of (layouts_of stores.now)) array) }
 {
     let home = decls.arrays()[array as usize].home;
-    values_at(alloc, &stores[home as usize], slot_of(decls, array))
+    values_at(alloc, &stores[home as usize], index_at_home(decls, array))
 }
 
-/// Puts values into a whole array, in order.
+/// Puts values, stretched to the output's length, into a whole array, in order.
 pub fn put(
     alloc: Global,
     decls: &Decls,
@@ -159,30 +153,30 @@ pub fn put(
 ) -> Result<(), Memory>
     requires layouts { AreLayouts decls.now (layouts_of stores.old.items) }
     requires whole { IsWhole decls.now out.now }
-    requires many { length values.now ≡ out.now.count }
-    ensures { OnOk result (layouts_of stores.new.items ≡ layouts_with decls.now (layouts_of stores.old.items) (Some out.now) (Some (Values values.now))) }
+    requires many { length (stretched out.now.count values.now) ≡ out.now.count }
+    ensures { OnOk result (layouts_of stores.new.items ≡ layouts_with decls.now (layouts_of stores.old.items) (Some out.now) (Some (Values (stretched out.now.count values.now)))) }
 {
     let home = decls.arrays()[out.array as usize].home;
-    let slot = slot_of(decls, out.array);
+    let index = index_at_home(decls, out.array);
     let store = &mut stores[home as usize];
-    put_whole(alloc, store, slot, out.count, values)
+    put_whole(alloc, store, index, out.count, values)
 }
 
-/// Puts values into a whole array of a store, in order.
+/// Puts values, stretched to the array's length, into a whole array of a store, in order.
 fn put_whole(
     alloc: Global,
     store: &mut Store,
-    slot: u32,
+    index: u32,
     count: u32,
     values: &[Value],
 ) -> Result<(), Memory>
-    requires slot { slot < length store.old.layout.lengths }
-    requires count { count ≡ slice_index store.old.layout.lengths slot }
-    requires many { length values.now ≡ count }
-    ensures { OnOk result (store.new.layout ≡ put_all store.old.layout (puts_from (first_entry store.old.layout.lengths slot) (zip (counted_from 0 count) values.now))) }
+    requires index { index < length store.old.contents.layout.lengths }
+    requires count { count ≡ slice_index store.old.contents.layout.lengths index }
+    requires many { length (stretched count values.now) ≡ count }
+    ensures { OnOk result (store.new.contents.layout ≡ put_all store.old.contents.layout (puts_from (first_entry store.old.contents.layout.lengths index) (zip (counted_from 0 count) (stretched count values.now)))) }
 {
     let places = counted(alloc, count)?;
-    let plan = store.plan(alloc, slot, places.as_slice(), values)?;
+    let plan = store.plan(alloc, index, places.as_slice(), values)?;
     store.write(plan);
     Ok(())
 }

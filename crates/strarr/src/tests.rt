@@ -202,6 +202,28 @@ fn a_script_has_at_most_4194304_bytes(rt: HostRuntime) -> Result<(), Fail> {
     Ok(())
 }
 
+#[test]
+fn large_input_and_output_have_their_answers(rt: HostRuntime) -> Result<(), Fail> {
+    let alloc = rt.alloc();
+    let mut late = vec![in alloc; b'\n'; 2_500]?;
+    late.extend_from_slice(b"foo\n")?;
+    let (status, written) = serial(alloc, late.as_slice())?;
+    assert_eq!(rt; status, Status::Script);
+    assert_eq!(rt; written.as_slice(), b"fault 2 line 2501\n".as_slice());
+    // three tasks show 8,192 texts of 40 letters, twice each: 43 bytes a text, and brackets
+    let mut script = Vec::from_slice(alloc, b"descr d nan\narray a d str 8192\ntask\nset a \"")?;
+    for _ in 0..40 {
+        script.push(b'x')?;
+    }
+    script.extend_from_slice(b"\"\nshow a\ntask\nshow a\nshow a\ntask\nshow a\nshow a\nend\n")?;
+    let (status, written) = outcome(alloc, &["serial"], script.as_slice(), 65_536, &[], 3_000_000, &[])?;
+    let front = b"report 1\nhistory 0:0 0:1 1:0 1:1 2:0 2:1\nmarked\ntask 0\n0 done\n1 shown (\"xxxx";
+    assert_eq!(rt; status, Status::Done);
+    assert!(rt; starts(written.as_slice(), front));
+    assert_eq!(rt; written.len(), 2_113_727);
+    Ok(())
+}
+
 /// Whether bytes start with a front.
 fn starts(bytes: &[u8], front: &[u8]) -> bool {
     bytes.len() >= front.len() && &bytes[..front.len()] == front

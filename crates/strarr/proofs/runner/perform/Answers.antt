@@ -1,6 +1,6 @@
 use Rattle.std.proofs.Common.{◌≡◌, ◌≤◌, List, length, IfOk, OnOk, Some, None, false, slice_get, subst, sym, ap, ◌∙◌}
 use Rattle.sa_alloc.specs.Layouts.{Layout}
-use Rattle.sa_alloc.specs.Stored.{Stored}
+use Rattle.sa_alloc.specs.StoreValues.{StoreValue}
 use Rattle.sa_text.specs.Values.{weight_of}
 use Rattle.sa_script.specs.Effects.{stretched}
 use Rattle.sa_script.specs.declared.call.Operand.TheVariants as operand
@@ -35,7 +35,7 @@ pub show-requires-clause-few : goal.show-requires-clause-few
 show-requires-clause-few c =
     let first : slice_get c.args.call.now.operands 0 ≡ Some (operand.View c.in-View.view) = sym (rw c.in-Some.is at c.get.ensures) ∙ ap Some c.in-View.is in
     let facts = show_facts c.args.decls.now (layouts_of c.args.stores.now.items) c.args.call.now c.in-View.view c.requires.declared c.requires.layouts c.requires.call first in
-    subst (λ (stores : List Stored). length (values_at c.args.decls.now (world_of (layouts_of stores)) c.in-View.view.array) ≤ 8192) (sym c.as_slice.ensures.value) facts.few
+    subst (λ (stores : List StoreValue). length (values_at c.args.decls.now (world_of (layouts_of stores)) c.in-View.view.array) ≤ 8192) (sym c.as_slice.ensures.value) facts.few
 
 pub returns-in-Some-out-clause-reply : goal.returns-in-Some-out-clause-reply
 returns-in-Some-out-clause-reply c =
@@ -55,5 +55,5 @@ returns-in-View-clause-reply c =
     let facts = show_facts c.args.decls.now (layouts_of c.args.stores.now.items) c.args.call.now c.in-View.view c.requires.declared c.requires.layouts c.requires.call first in
     let d = c.args.decls.now in
     let a = c.in-View.view.array in
-    let shown = subst (λ (stores : List Stored). IfOk c.show.result (λ reply. reply ≡ (outcome_with None false (weight_of (values_at d (world_of (layouts_of stores)) a)) (stretched (length (values_at d (world_of (layouts_of stores)) a)) (values_at d (world_of (layouts_of stores)) a))).reply)) c.as_slice.ensures.value c.show.ensures in
+    let shown = subst (λ (stores : List StoreValue). IfOk c.show.result (λ reply. reply ≡ (outcome_with None false (weight_of (values_at d (world_of (layouts_of stores)) a)) (stretched (length (values_at d (world_of (layouts_of stores)) a)) (values_at d (world_of (layouts_of stores)) a))).reply)) c.as_slice.ensures.value c.show.ensures in
     subst (λ (o : Outcome). IfOk c.show.result (λ reply. reply ≡ o.reply)) (sym facts.outcome) shown

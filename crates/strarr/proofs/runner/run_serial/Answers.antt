@@ -3,7 +3,7 @@ use Rattle.sa_alloc.specs.Layouts.{Layout}
 use Rattle.sa_script.specs.declared.call.Call.{Call}
 use Rattle.sa_script.specs.declared.reply.Reply.{Reply}
 use Rattle.std.specs.List.{AllByRecursion}
-use Rattle.sa_alloc.specs.Stored.{Stored}
+use Rattle.sa_alloc.specs.StoreValues.{StoreValue}
 use Rattle.sa_script.specs.Decls.{Declared, IsDeclared}
 use Rattle.sa_script.specs.Sound.{IsCall, AreCalls}
 use Rattle.strarr.proofs.CallLemmas.{all_at}
@@ -73,7 +73,7 @@ returns-clause-arrays c =
     let ts = c.as_slice-tasks.result.now in
     let tasks = c.as_slice-tasks.ensures ∙ c.tasks.ensures.tasks in
     c.in_ok-arrays.ensures
-    ∙ ap (λ (stores : List Stored). contents_of d (world_of (layouts_of stores))) c.as_slice.ensures.value
+    ∙ ap (λ (stores : List StoreValue). contents_of d (world_of (layouts_of stores))) c.as_slice.ensures.value
     ∙ ap (λ (ls : List Layout). contents_of d (world_of ls)) (ended_layouts d (layouts_of c.loop-task.stores.items) ts c.loop-task.task (layouts_left d (opening_layouts d) (all_calls ts)) c.loop-task-test.false c.loop-task.invariant.layouts)
     ∙ ap₂ (λ (x : Declared) (xs : List (List Call)). contents_of x (world_of (layouts_left x (opening_layouts x) (all_calls xs)))) c.decls-decls.ensures tasks
     ∙ ap (contents_of plan.decls) (sym (serial_world plan.decls plan.names plan.tasks c.tasks.ensures.sound.declared c.tasks.ensures.sound.valid))
@@ -85,7 +85,7 @@ returns-clause-stats c =
     let ts = c.as_slice-tasks.result.now in
     let tasks = c.as_slice-tasks.ensures ∙ c.tasks.ensures.tasks in
     c.in_ok-stats.ensures
-    ∙ ap (λ (stores : List Stored). stats_in d (world_of (layouts_of stores))) c.as_slice-2.ensures.value
+    ∙ ap (λ (stores : List StoreValue). stats_in d (world_of (layouts_of stores))) c.as_slice-2.ensures.value
     ∙ ap (λ (ls : List Layout). stats_in d (world_of ls)) (ended_layouts d (layouts_of c.loop-task.stores.items) ts c.loop-task.task (layouts_left d (opening_layouts d) (all_calls ts)) c.loop-task-test.false c.loop-task.invariant.layouts)
     ∙ ap₂ (λ (x : Declared) (xs : List (List Call)). stats_in x (world_of (layouts_left x (opening_layouts x) (all_calls xs)))) c.decls-decls.ensures tasks
     ∙ ap (stats_in plan.decls) (sym (serial_world plan.decls plan.names plan.tasks c.tasks.ensures.sound.declared c.tasks.ensures.sound.valid))

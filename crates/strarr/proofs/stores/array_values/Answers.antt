@@ -4,13 +4,13 @@ use Rattle.strarr.proofs.HeldLemmas.{at-home}
 use Rattle.strarr.proofs.stores.array_values.Goals as goal
 
 pub values_at-requires-clause-slot : goal.values_at-requires-clause-slot
-values_at-requires-clause-slot c = (at-home c.args.decls.now c.args.stores.now c.args.array _ _ _ c.arrays.ensures.declared c.requires.layouts c.requires.array c.arrays.ensures.arrays c.index-stores-home.is c.slot_of.ensures).below
+values_at-requires-clause-slot c = (at-home c.args.decls.now c.args.stores.now c.args.array _ _ _ c.arrays.ensures.declared c.requires.layouts c.requires.array c.arrays.ensures.arrays c.index-stores-home.is c.index_at_home.ensures).below
 
 pub values_at-requires-clause-states : goal.values_at-requires-clause-states
-values_at-requires-clause-states c = (at-home c.args.decls.now c.args.stores.now c.args.array _ _ _ c.arrays.ensures.declared c.requires.layouts c.requires.array c.arrays.ensures.arrays c.index-stores-home.is c.slot_of.ensures).states
+values_at-requires-clause-states c = (at-home c.args.decls.now c.args.stores.now c.args.array _ _ _ c.arrays.ensures.declared c.requires.layouts c.requires.array c.arrays.ensures.arrays c.index-stores-home.is c.index_at_home.ensures).states
 
 pub returns : goal.returns
 returns c =
     subst (λ (items : List Value). IfOk c.values_at.result (λ values. values ≡ items))
-    (at-home c.args.decls.now c.args.stores.now c.args.array _ _ _ c.arrays.ensures.declared c.requires.layouts c.requires.array c.arrays.ensures.arrays c.index-stores-home.is c.slot_of.ensures).items
+    (at-home c.args.decls.now c.args.stores.now c.args.array _ _ _ c.arrays.ensures.declared c.requires.layouts c.requires.array c.arrays.ensures.arrays c.index-stores-home.is c.index_at_home.ensures).items
     c.values_at.ensures

@@ -1,7 +1,7 @@
 use Rattle.std.proofs.Common.{◌≡◌, ◌+◌, ℕ, ◌∷◌, [], ◌++◌, map, sym, ap, ◌∙◌, subst, arith}
 use Rattle.std.proofs.lemmas.List.{map-append}
 use Rattle.sa_alloc.specs.Layouts.{opening_layout}
-use Rattle.sa_alloc.specs.Stored.{Stored}
+use Rattle.sa_alloc.specs.StoreValues.{StoreValue}
 use Rattle.sa_alloc.specs.Ties.{IsSmall}
 use Rattle.strarr.specs.Worlds.{lengths_of, counted_from}
 use Rattle.strarr.specs.Runs.{layouts_of}
@@ -16,11 +16,11 @@ loop-home-preserved c =
     let d = c.args.decls.now in
     let k = c.loop-home.home in
     let f = λ (h : ℕ). opening_layout (lengths_of d h) in
-    let one : c.in_ok-new.field-0.layout ≡ f k = ap (λ (s : Stored). s.layout) c.in_ok-new.ensures ∙ ap opening_layout (c.as_slice.ensures.value ∙ c.in_ok-lengths.ensures) in
+    let one : c.in_ok-new.field-0.contents.layout ≡ f k = ap (λ (s : StoreValue). s.contents.layout) c.in_ok-new.ensures ∙ ap opening_layout (c.as_slice.ensures.value ∙ c.in_ok-lengths.ensures) in
     let e : k ≡ 0 + k = omega arith in
     ap layouts_of c.in_ok-push.ensures.items
-    ∙ map-append (λ (s : Stored). s.layout) c.loop-home.stores.items (c.in_ok-new.field-0 ∷ [])
-    ∙ ap (λ ls. ls ++ c.in_ok-new.field-0.layout ∷ []) c.loop-home.invariant
+    ∙ map-append (λ (s : StoreValue). s.contents.layout) c.loop-home.stores.items (c.in_ok-new.field-0 ∷ [])
+    ∙ ap (λ ls. ls ++ c.in_ok-new.field-0.contents.layout ∷ []) c.loop-home.invariant
     ∙ ap (λ l. map f (counted_from 0 k) ++ l ∷ []) (one ∙ ap f e)
     ∙ sym (map-append f (counted_from 0 k) ((0 + k) ∷ []))
     ∙ ap (map f) (sym (counted-more 0 k))

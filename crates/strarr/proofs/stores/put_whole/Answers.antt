@@ -14,4 +14,4 @@ plan-requires-clause-distinct c = subst AreDistinct (sym (c.as_slice.ensures.val
 pub plan-requires-clause-places : goal.plan-requires-clause-places
 plan-requires-clause-places c =
     let count = c.requires.count in
-    subst (AllByRecursion (λ (p : ℕ). p < slice_index c.args.store.now.layout.lengths c.args.slot)) (sym (c.as_slice.ensures.value ∙ c.in_ok-places.ensures)) (counted-below _ 0 c.args.count (omega arith))
+    subst (AllByRecursion (λ (p : ℕ). p < slice_index c.args.store.now.contents.layout.lengths c.args.slot)) (sym (c.as_slice.ensures.value ∙ c.in_ok-places.ensures)) (counted-below _ 0 c.args.count (omega arith))
