@@ -1,4 +1,4 @@
-ghost use Rattle.std.specs.Prelude.{◌≡◌, ◌++◌, ◌≤◌, false, true, length};
+ghost use Rattle.std.specs.Prelude.{◌≡◌, ◌++◌, ◌≤◌, false, true, length, take};
 ghost use Rattle.std.specs.List.{list_all, prefix_len};
 ghost use Rattle.sa_runs.specs.Runs.{is_plain, begins_plain};
 
@@ -9,6 +9,7 @@ use std::simd::{u8x8, u8x16, u8x32};
 pub fn plain_len(text: &[u8]) -> usize
     ensures plain { result ≡ prefix_len is_plain text.now }
     ensures within { result ≤ length text.now }
+    ensures front { list_all is_plain (take result text.now) ≡ true }
 {
     let mut ran = 0usize;
     let mut rest = text;
