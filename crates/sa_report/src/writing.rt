@@ -1,6 +1,6 @@
 ghost use Rattle.std.specs.Prelude.{◌≡◌, ◌++◌, ◌∷◌, [], OnOk};
-ghost use Rattle.std.specs.List.{flat_map};
-ghost use Rattle.sa_report.specs.Reports.{value_bytes, commas, list_bytes, reply_bytes, spaced_pair, call_line};
+ghost use Rattle.std.specs.List.{flat_map, join_by};
+ghost use Rattle.sa_report.specs.Reports.{value_bytes, list_bytes, reply_bytes, spaced_pair, call_line};
 
 use sa_base::Memory;
 use sa_lines::{push_decimal, push_quoted};
@@ -39,7 +39,7 @@ fn push_further(out: &mut Vec<u8>, values: &[Value]) -> Result<(), Memory>
 
 /// Writes values with a comma between two of them.
 fn push_values(out: &mut Vec<u8>, values: &[Value]) -> Result<(), Memory>
-    ensures { OnOk result (out.new.items ≡ out.old.items ++ commas values.now) }
+    ensures { OnOk result (out.new.items ≡ out.old.items ++ join_by value_bytes (44 ∷ []) values.now) }
 {
     match values.split_first() {
         None => Ok(()),
