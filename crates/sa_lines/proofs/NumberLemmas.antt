@@ -1,8 +1,17 @@
 -- Digits of a number that is brought down to a greatest one.
-use Rattle.std.proofs.Common.{◌≡◌, ℕ, ◌+◌, ◌-◌, ◌*◌, ◌≤◌, true, false, ◌&&◌, nat_le, List, [], ◌∷◌, Option, Some, None, option_map, min, refl, sym, ap, ◌∙◌, inl, inr, arith, le-leb}
-use Rattle.std.proofs.lemmas.Bool.{cases_Bool, and_from}
+use Rattle.std.proofs.Common.{◌≡◌, ℕ, ◌+◌, ◌-◌, ◌*◌, ◌<◌, ◌≤◌, true, false, ◌&&◌, nat_le, List, [], ◌∷◌, Option, Some, None, option_map, min, refl, sym, ap, ◌∙◌, inl, inr, arith, le-leb, leb-true, if◌then◌else◌, length}
+use Rattle.std.proofs.lemmas.Bool.{cases_Bool, and_from, and_parts}
 use Rattle.std.proofs.lemmas.Option.{none-some}
-use Rattle.sa_lines.specs.Numbers.{digits_after}
+use Rattle.std.specs.Char.{digit_value}
+use Rattle.std.specs.Str.{all_ascii_digits}
+use Rattle.std.specs.Str.Parse.{digits_value_after}
+use Rattle.std.proofs.lemmas.Str.{digit_value_digit}
+use Rattle.sa_lines.specs.Numbers.{digits_of}
+
+-- the number that further decimal digits make of one, or none where one of them is no digit
+abbrev pub digits_after : ℕ → List ℕ → Option ℕ
+digits_after n [] = Some n
+digits_after n (b ∷ bs) = if nat_le 48 b && nat_le b 57 then digits_after (n * 10 + (b - 48)) bs else None
 
 -- a byte that is a digit, and one that is none
 pub digits_after-digit : (n b : ℕ) (bs : List ℕ) → (nat_le 48 b && nat_le b 57) ≡ true → digits_after n (b ∷ bs) ≡ digits_after (n * 10 + (b - 48)) bs
@@ -36,3 +45,21 @@ digits_after-capped top n b bs low high above =
     let m : ℕ = n * 10 + (b - 48) in
     let is_top : min top m ≡ top = omega arith in
     ap (option_map (min top)) (digits_after-digit n b bs t) ∙ (sym (digits_after-min top m bs) ∙ ap (λ k. option_map (min top) (digits_after k bs)) is_top)
+
+-- the same by std's words
+value-digit : (b : ℕ) → (nat_le 48 b && nat_le b 57) ≡ true → digit_value b ≡ b - 48
+value-digit b t =
+    let parts = and_parts (nat_le 48 b) (nat_le b 57) t in
+    let low = leb-true 48 b parts.0 in
+    omega (arith, digit_value_digit b (low, leb-true b 57 parts.1))
+
+digits_after-value : (n : ℕ) (bs : List ℕ) → digits_after n bs ≡ (if all_ascii_digits bs then Some (digits_value_after 10 n bs) else None)
+digits_after-value n [] = refl
+digits_after-value n (b ∷ bs) = elim (cases_Bool (nat_le 48 b && nat_le b 57)) [
+  | inl t ↦ digits_after-digit n b bs t ∙ rw (t, value-digit b t) (digits_after-value (n * 10 + (b - 48)) bs)
+  | inr f ↦ rw f refl
+]
+
+pub digits_of-after : (bs : List ℕ) → 0 < length bs → digits_of bs ≡ digits_after 0 bs
+digits_of-after [] some = absurd (omega arith)
+digits_of-after (b ∷ bs) some = sym (digits_after-value 0 (b ∷ bs))

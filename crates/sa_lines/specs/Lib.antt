@@ -4,3 +4,4 @@ pub mod Numbers
 pub mod Options
 pub mod Quotes
 pub mod Tokens
+pub mod TokenSteps

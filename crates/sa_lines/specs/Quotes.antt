@@ -1,22 +1,14 @@
--- Quoted texts: how one is written, and what the pieces of a written one stand for.
-use Rattle.std.specs.Prelude.{ℕ, zero, suc, ◌+◌, ◌-◌, ◌*◌, ◌==◌, nat_lt, nat_le, ◌||◌, ◌&&◌, List, [], ◌∷◌, ◌++◌, length, Option, None, Some, option_map, if◌then◌else◌, encode_utf8}
-use Rattle.std.specs.List.{flat_map}
+-- Quoted texts: how one is written, and what the pieces of a written one stand for. This project's own rule.
+use Rattle.std.specs.Prelude.{ℕ, zero, suc, ◌+◌, ◌-◌, ◌*◌, ◌==◌, nat_lt, nat_le, ◌||◌, ◌&&◌, List, [], ◌∷◌, ◌++◌, length, take, drop, Option, None, Some, option_map, if◌then◌else◌, encode_utf8}
+use Rattle.std.specs.Char.Escape.{escape_unicode}
+use Rattle.std.specs.List.{flat_map, prefix_len}
 use Rattle.std.proofs.Math.Utf8.{scalar}
+use Rattle.sa_runs.specs.Runs.{is_plain}
 use Rattle.sa_lines.specs.Options.{◌>>=◌, in_front}
 
--- the digit of a number below 16 in base 16, in lower case
-abbrev pub hex_digit : ℕ → ℕ
-hex_digit d = if nat_lt d 10 then 48 + d else 87 + d
-
--- a code point of a quoted text: a quotation mark and a backslash behind a backslash, a control character below U+0020 and U+007F by its number, and each other one as its UTF-8
+-- a code point of a quoted text: a plain one as its UTF-8, a quotation mark and a backslash behind a backslash, and a control character below U+0020 and U+007F by its number, as std's `escape_unicode`
 abbrev pub piece : ℕ → List ℕ
-piece c =
-    if c == 34 then 92 ∷ 34 ∷ []
-    else (if c == 92 then 92 ∷ 92 ∷ []
-    else (if nat_lt c 16 then 92 ∷ 117 ∷ 123 ∷ hex_digit c ∷ 125 ∷ []
-    else (if nat_lt c 32 then 92 ∷ 117 ∷ 123 ∷ 49 ∷ hex_digit (c - 16) ∷ 125 ∷ []
-    else (if c == 127 then 92 ∷ 117 ∷ 123 ∷ 55 ∷ 102 ∷ 125 ∷ []
-    else encode_utf8 c))))
+piece c = if is_plain c then encode_utf8 c else (if (c == 34) || (c == 92) then 92 ∷ c ∷ [] else escape_unicode c)
 
 -- a text in quotation marks
 abbrev pub quoted : List ℕ → List ℕ
@@ -57,3 +49,13 @@ pieces_at (suc left) (b ∷ bs) = if b == 34 then Some ([], bs) else (piece_at b
 abbrev pub quoted_at : List ℕ → Option (List ℕ × List ℕ)
 quoted_at [] = None
 quoted_at (b ∷ bs) = if b == 34 then pieces_at (length bs) bs else None
+
+-- these bytes where a quotation mark closes them, and those after it
+abbrev pub closed : List ℕ → List ℕ → Option (List ℕ × List ℕ)
+closed text [] = None
+closed text (b ∷ bs) = if b == 34 then Some (text, bs) else None
+
+-- a quoted text at the front that is plain bytes alone, and the bytes after it
+abbrev pub plain_at : List ℕ → Option (List ℕ × List ℕ)
+plain_at [] = None
+plain_at (b ∷ bs) = if b == 34 then closed (take (prefix_len is_plain bs) bs) (drop (prefix_len is_plain bs) bs) else None

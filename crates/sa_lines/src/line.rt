@@ -1,5 +1,7 @@
-ghost use Rattle.std.specs.Prelude.{◌≡◌, ◌<◌, ◌≤◌, ◌∷◌, false, length};
-ghost use Rattle.sa_lines.specs.Lines.{lines_of, without_return, is_skipped, is_blank, begins_blank};
+ghost use Rattle.std.specs.Prelude.{◌≡◌, ◌<◌, ◌≤◌, ◌∷◌, length};
+ghost use Rattle.std.specs.List.{prefix_len};
+ghost use Rattle.std.specs.Str.Lines.{strip_carriage_return};
+ghost use Rattle.sa_lines.specs.Lines.{lines_of, is_skipped, is_blank};
 ghost use Rattle.sa_lines.specs.Tokens.{tokens_of};
 
 use crate::bytes::first;
@@ -27,12 +29,12 @@ pub fn cut_line(bytes: &[u8]) -> (&[u8], &[u8])
 
 /// The line without a carriage return at its end.
 fn without_return(line: &[u8]) -> &[u8]
-    ensures { result.now ≡ without_return line.now }
+    ensures { result.now ≡ strip_carriage_return line.now }
 {
-    let Some((byte, front)) = line.split_last() else {
-        return line;
-    };
-    if *byte == b'\r' { front } else { line }
+    match line.last() {
+        Some(b'\r') => &line[..line.len() - 1],
+        _ => line,
+    }
 }
 
 /// Whether a line is skipped: it has blanks alone, or its first byte that is none is `#`.
@@ -47,7 +49,7 @@ pub fn is_skipped(line: &[u8]) -> bool
 
 /// The line from its first byte on that is no blank.
 pub fn skip_blanks(line: &[u8]) -> &[u8]
-    ensures stops { begins_blank result.now ≡ false }
+    ensures stops { prefix_len is_blank result.now ≡ 0 }
     ensures skips { is_skipped line.now ≡ is_skipped result.now }
     ensures tokens { tokens_of line.now ≡ tokens_of result.now }
     ensures within { length result.now ≤ length line.now }

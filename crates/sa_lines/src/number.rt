@@ -1,4 +1,4 @@
-ghost use Rattle.std.specs.Prelude.{◌≡◌, ◌++◌, OnOk, decimal, option_map, min, ◌+◌, ◌^◌};
+ghost use Rattle.std.specs.Prelude.{◌≡◌, ◌++◌, OnOk, OnErr, decimal, option_map, min, ◌+◌, ◌^◌};
 ghost use Rattle.sa_lines.specs.Numbers.{digits_of, fitted_negative, number_of};
 
 use crate::bytes::first;
@@ -57,9 +57,10 @@ fn negative(value: u64) -> Option<i64>
     Some(-1 - before)
 }
 
-/// Writes a number in decimal at the end.
+/// Writes a number in decimal at the end. Where there is no memory, nothing is written.
 pub fn push_decimal(out: &mut Vec<u8>, number: u64) -> Result<(), Memory>
-    ensures { OnOk result (out.new.items ≡ out.old.items ++ decimal number) }
+    ensures written { OnOk result (out.new.items ≡ out.old.items ++ decimal number) }
+    ensures unchanged { OnErr result (out.new.items ≡ out.old.items) }
 {
     let mut buffer = Buffer::new();
     out.extend_from_slice(buffer.format(number).as_bytes())?;

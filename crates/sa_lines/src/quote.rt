@@ -1,9 +1,13 @@
-ghost use Rattle.std.specs.Prelude.{◌≡◌, ◌≤◌, ◌<◌, ◌*◌, ◌^◌, ◌-◌, ◌++◌, ◌∷◌, [], length, option_map, IfSome, IfOk, OnOk, encode_utf8, IsUtf8};
+ghost use Rattle.std.specs.Prelude.{◌≡◌, ◌≤◌, ◌<◌, ◌*◌, ◌^◌, ◌-◌, ◌++◌, Some, false, length, take, option_map, IfSome, IfOk, OnOk, OnErr, encode_utf8, IsUtf8};
+ghost use Rattle.std.specs.Char.{digit_char};
+ghost use Rattle.std.specs.Io.{StartsWith};
 ghost use Rattle.std.specs.Str.{chars};
-ghost use Rattle.sa_lines.specs.Quotes.{hex_value, hex_at, scalar_at, escape_at, quoted_at, quoted, piece, hex_digit};
+ghost use Rattle.sa_runs.specs.Runs.{is_plain};
+ghost use Rattle.sa_lines.specs.Quotes.{hex_value, hex_at, scalar_at, escape_at, quoted_at, plain_at, quoted, piece};
 
 use crate::bytes::first;
 use sa_base::Memory;
+use sa_runs::{cut_run, plain_len};
 use std::alloc::AllocError;
 
 /// The value of a lower-case hexadecimal digit.
@@ -76,7 +80,9 @@ pub fn quoted_at<'a>(out: &mut Vec<u8>, bytes: &'a [u8]) -> Result<Option<&'a [u
     };
     let mut rest = text;
     'pieces: loop {
-        let Some((byte, others)) = first(rest) else {
+        let (run, behind) = cut_run(rest);
+        push_run(out, run)?;
+        let Some((byte, others)) = first(behind) else {
             return Ok(None);
         };
         match byte {
@@ -97,6 +103,38 @@ pub fn quoted_at<'a>(out: &mut Vec<u8>, bytes: &'a [u8]) -> Result<Option<&'a [u
     }
 }
 
+/// Reads a quoted text of plain bytes at the front, with no buffer: the bytes behind its quotation
+/// mark, how many of them are the text, and what follows it. None where the text has an escape or a
+/// control character, is not closed, or no quotation mark stands there.
+#[inline]
+pub fn plain_at(bytes: &[u8]) -> Option<(&[u8], usize, &[u8])>
+    ensures exact { option_map (λ x. (take x.1 x.0.now, x.2.now)) result ≡ plain_at bytes.now }
+    ensures reads { IfSome result (λ x. quoted_at bytes.now ≡ Some (take x.1 x.0.now, x.2.now)) }
+    ensures within { IfSome result (λ x. x.1 ≤ length x.0.now) }
+{
+    let Some((b'"', text)) = first(bytes) else {
+        return None;
+    };
+    let size = plain_len(text);
+    let (_, behind) = text.split_at(size);
+    match first(behind) {
+        Some((b'"', rest)) => Some((text, size, rest)),
+        _ => None,
+    }
+}
+
+/// Puts bytes at the end, mostly none.
+#[inline]
+fn push_run(out: &mut Vec<u8>, run: &[u8]) -> Result<(), AllocError>
+    ensures written { OnOk result (out.new.items ≡ out.old.items ++ run.now) }
+    ensures unchanged { OnErr result (out.new.items ≡ out.old.items) }
+{
+    if run.is_empty() {
+        return Ok(());
+    }
+    out.extend_from_slice(run)
+}
+
 /// Puts the UTF-8 of a code point at the end.
 fn push_point(out: &mut Vec<u8>, point: char) -> Result<(), AllocError>
     ensures { OnOk result (out.new.items ≡ out.old.items ++ encode_utf8 point) }
@@ -105,14 +143,23 @@ fn push_point(out: &mut Vec<u8>, point: char) -> Result<(), AllocError>
     out.extend_from_slice(point.encode_utf8(&mut buffer).as_bytes())
 }
 
-/// Writes a text, given by its UTF-8, in quotation marks at the end.
+/// Writes a text, given by its UTF-8, in quotation marks at the end. Where there is no memory, what
+/// stood there before still stands in front.
 pub fn push_quoted(out: &mut Vec<u8>, text: &[u8]) -> Result<(), Memory>
     requires { IsUtf8 text.now }
-    ensures { OnOk result (out.new.items ≡ out.old.items ++ quoted (chars text.now)) }
+    ensures written { OnOk result (out.new.items ≡ out.old.items ++ quoted (chars text.now)) }
+    ensures begins { StartsWith out.new.items out.old.items }
 {
     out.push(b'"')?;
-    for byte in text {
-        push_piece(out, *byte)?;
+    let mut rest = text;
+    'pieces: loop {
+        let (run, behind) = cut_run(rest);
+        push_run(out, run)?;
+        let Some((byte, others)) = first(behind) else {
+            break;
+        };
+        push_mark(out, byte)?;
+        rest = others;
     }
     out.push(b'"')?;
     Ok(())
@@ -121,7 +168,7 @@ pub fn push_quoted(out: &mut Vec<u8>, text: &[u8]) -> Result<(), Memory>
 /// A lower-case hexadecimal digit.
 fn hex_digit(value: u8) -> u8
     requires { value < 16 }
-    ensures { result ≡ hex_digit value }
+    ensures { result ≡ digit_char value }
 {
     if value < 10 {
         b'0' + value
@@ -130,18 +177,18 @@ fn hex_digit(value: u8) -> u8
     }
 }
 
-/// Writes one byte of a text: as it is, or a control character, quotation mark or backslash by its
-/// piece.
-fn push_piece(out: &mut Vec<u8>, byte: u8) -> Result<(), Memory>
-    ensures control { byte < 128 → OnOk result (out.new.items ≡ out.old.items ++ piece byte) }
-    ensures other { 128 ≤ byte → OnOk result (out.new.items ≡ out.old.items ++ byte ∷ []) }
+/// Writes a byte that is not plain: a quotation mark or backslash behind a backslash, or a control
+/// character by its number.
+fn push_mark(out: &mut Vec<u8>, byte: u8) -> Result<(), Memory>
+    requires { is_plain byte ≡ false }
+    ensures written { OnOk result (out.new.items ≡ out.old.items ++ piece byte) }
+    ensures unchanged { OnErr result (out.new.items ≡ out.old.items) }
 {
     match byte {
         b'"' | b'\\' => out.extend_from_slice(&[b'\\', byte])?,
-        0..16 => out.extend_from_slice(&[b'\\', b'u', b'{', hex_digit(byte), b'}'])?,
-        16..32 => out.extend_from_slice(&[b'\\', b'u', b'{', b'1', hex_digit(byte - 16), b'}'])?,
         127 => out.extend_from_slice(b"\\u{7f}")?,
-        _ => out.push(byte)?,
+        0..16 => out.extend_from_slice(&[b'\\', b'u', b'{', hex_digit(byte), b'}'])?,
+        _ => out.extend_from_slice(&[b'\\', b'u', b'{', b'1', hex_digit(byte - 16), b'}'])?,
     }
     Ok(())
 }

@@ -1,7 +1,8 @@
 use crate::{
-    cut_line, first, is_skipped, is_word, next_token, number_of, push_decimal, push_quoted,
-    quoted_at,
+    cut_line, first, is_skipped, is_word, next_token, number_of, plain_at, push_decimal,
+    push_quoted, quoted_at,
 };
+use std::alloc::Global;
 use std::test::Fail;
 
 #[test]
@@ -149,6 +150,87 @@ fn numbers(rt: HostRuntime) -> Result<(), Fail> {
         ("99999999999999999999a", None),
     ] {
         assert_eq!(rt; number_of(text.as_bytes()), number, "of {text:?}");
+    }
+    Ok(())
+}
+
+/// A quotation mark, so many bytes `x`, and these behind them.
+fn long(alloc: Global, size: usize, behind: &[u8]) -> Result<Vec<u8>, Fail> {
+    let mut bytes = vec![in alloc; b'x'; size]?;
+    bytes.insert(0, b'"')?;
+    bytes.extend_from_slice(behind)?;
+    Ok(bytes)
+}
+
+/// Lengths of runs on both sides of each vector's, and of the longest text.
+const SIZES: &[usize] = &[0, 1, 7, 8, 15, 16, 31, 32, 33, 64, 65, 100, 65_536];
+
+#[test]
+fn long_texts(rt: HostRuntime) -> Result<(), Fail> {
+    let alloc = rt.alloc();
+    let mut out = Vec::new(alloc);
+    for size in SIZES {
+        let bytes = long(alloc, *size, b"\" y")?;
+        let past = quoted_at(&mut out, &bytes)?;
+        assert!(rt; past == Some(b" y".as_slice()), "behind {size}");
+        assert_eq!(rt; out.len(), *size);
+        let (token, rest) = next_token(&bytes).ok_or("no token")?;
+        assert_eq!(rt; token.len(), *size + 2);
+        assert_eq!(rt; rest, b" y".as_slice(), "behind {size}");
+        let (text, count, rest) = plain_at(&bytes).ok_or("no text")?;
+        assert_eq!(rt; count, *size);
+        assert!(rt; text.len() > count, "{size}");
+        assert_eq!(rt; rest, b" y".as_slice(), "behind {size}");
+    }
+    Ok(())
+}
+
+#[test]
+fn long_runs_before_an_escape(rt: HostRuntime) -> Result<(), Fail> {
+    let alloc = rt.alloc();
+    let mut out = Vec::new(alloc);
+    for size in SIZES {
+        let bytes = long(alloc, *size, b"\\\" \\u{0000e9}z\" y")?;
+        let past = quoted_at(&mut out, &bytes)?;
+        assert!(rt; past == Some(b" y".as_slice()), "behind {size}");
+        let tail = out.get(*size..).ok_or("a short text")?;
+        assert_eq!(rt; tail, "\" éz".as_bytes(), "of {size}");
+        assert!(rt; plain_at(&bytes).is_none(), "of {size}");
+        let (_, rest) = next_token(&bytes).ok_or("no token")?;
+        assert_eq!(rt; rest, b" y".as_slice(), "behind {size}");
+    }
+    Ok(())
+}
+
+#[test]
+fn long_runs_that_are_no_text(rt: HostRuntime) -> Result<(), Fail> {
+    let alloc = rt.alloc();
+    let mut out = Vec::new(alloc);
+    for size in SIZES {
+        for behind in [b"\x1f\"".as_slice(), b"\\n\"", b"\\", b""] {
+            let bytes = long(alloc, *size, behind)?;
+            assert!(rt; quoted_at(&mut out, &bytes)?.is_none(), "of {size}");
+            assert!(rt; plain_at(&bytes).is_none(), "of {size}");
+        }
+    }
+    for bytes in [b"".as_slice(), b"x", b"x\"", b"na"] {
+        assert!(rt; plain_at(bytes).is_none(), "of {bytes:?}");
+    }
+    Ok(())
+}
+
+#[test]
+fn long_texts_written(rt: HostRuntime) -> Result<(), Fail> {
+    let alloc = rt.alloc();
+    for size in SIZES {
+        let mut out = Vec::new(alloc);
+        let text = long(alloc, *size, b"\x7fz")?;
+        let text = str::from_utf8(&text)?;
+        push_quoted(&mut out, text.as_bytes())?;
+        let want = long(alloc, *size, b"\\u{7f}z\"")?;
+        assert!(rt; out.starts_with(b"\"\\\""), "of {size}");
+        let tail = out.get(3..).ok_or("a short text")?;
+        assert!(rt; Some(tail) == want.get(1..), "of {size}");
     }
     Ok(())
 }

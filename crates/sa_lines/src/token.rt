@@ -1,15 +1,17 @@
-ghost use Rattle.std.specs.Prelude.{◌≡◌, ◌<◌, ◌∷◌, [], length, MatchOption, IfSome};
-ghost use Rattle.sa_lines.specs.Tokens.{tokens_of, ends, after};
+ghost use Rattle.std.specs.Prelude.{◌≡◌, ◌<◌, ◌++◌, ◌∷◌, [], Some, length, MatchOption, IfSome};
+ghost use Rattle.sa_lines.specs.Tokens.{tokens_of, ends, after, leads};
+ghost use Rattle.sa_lines.specs.TokenSteps.{state_of};
 
 use crate::bytes::first;
 use crate::line::{is_blank, skip_blanks};
+use sa_runs::cut_run;
 
 /// Where a byte of a line stands.
-#[derive(Clone, Copy, Debug, PartialEq, Eq)]
-pub enum Place {
+#[derive(Clone, Copy, Debug)]
+enum TokenState {
     /// Between two tokens, or before the first.
     Between,
-    /// Inside a token, and in no quoted text.
+    /// In a token, and in no quoted text.
     Inside,
     /// In a quoted text.
     Quoted,
@@ -17,26 +19,39 @@ pub enum Place {
     Escaped,
 }
 
-/// Whether a byte at this place ends a token, or stands between two.
-fn ends(place: Place, byte: u8) -> bool
-    ensures { result ≡ ends place byte }
+/// Whether a byte that stands there ends a token, or stands between two.
+fn ends(state: TokenState, byte: u8) -> bool
+    ensures { result ≡ ends (state_of state) byte }
 {
-    match place {
-        Place::Between | Place::Inside => is_blank(byte),
-        Place::Quoted | Place::Escaped => false,
+    match state {
+        TokenState::Between | TokenState::Inside => is_blank(byte),
+        TokenState::Quoted | TokenState::Escaped => false,
     }
 }
 
-/// The place after a byte that ends no token.
-fn after(place: Place, byte: u8) -> Place
-    ensures { result ≡ after place byte }
+/// Where the byte after one stands that ends no token.
+fn after(state: TokenState, byte: u8) -> TokenState
+    ensures { state_of result ≡ after (state_of state) byte }
 {
-    match (place, byte) {
-        (Place::Between | Place::Inside, b'"') => Place::Quoted,
-        (Place::Between | Place::Inside, _) => Place::Inside,
-        (Place::Quoted, b'"') => Place::Inside,
-        (Place::Quoted, b'\\') => Place::Escaped,
-        (Place::Quoted | Place::Escaped, _) => Place::Quoted,
+    match (state, byte) {
+        (TokenState::Between | TokenState::Inside, b'"') => TokenState::Quoted,
+        (TokenState::Between | TokenState::Inside, _) => TokenState::Inside,
+        (TokenState::Quoted, b'"') => TokenState::Inside,
+        (TokenState::Quoted, b'\\') => TokenState::Escaped,
+        (TokenState::Quoted | TokenState::Escaped, _) => TokenState::Quoted,
+    }
+}
+
+/// Bytes at the front that end no token and leave the state as it is, and those behind them. In a
+/// quoted text these are the plain bytes.
+#[inline]
+fn cut_kept(state: TokenState, bytes: &[u8]) -> (&[u8], &[u8])
+    ensures cut { bytes.now ≡ result.0.now ++ result.1.now }
+    ensures kept { leads (state_of state) result.0.now ≡ Some (state_of state) }
+{
+    match state {
+        TokenState::Quoted => cut_run(bytes),
+        TokenState::Between | TokenState::Inside | TokenState::Escaped => bytes.split_at(0),
     }
 }
 
@@ -49,16 +64,17 @@ pub fn next_token(line: &[u8]) -> Option<(&[u8], &[u8])>
     if begun.is_empty() {
         return None;
     }
-    let mut place = Place::Between;
+    let mut state = TokenState::Between;
     let mut end = 0usize;
     let mut rest = begun;
     'bytes: while let Some((byte, others)) = first(rest) {
-        if ends(place, byte) {
+        if ends(state, byte) {
             break;
         }
-        place = after(place, byte);
-        rest = others;
-        end += 1;
+        state = after(state, byte);
+        let (kept, behind) = cut_kept(state, others);
+        rest = behind;
+        end += 1 + kept.len();
     }
     Some((&begun[..end], rest))
 }

@@ -1,6 +1,6 @@
 -- How items are written in a report and in a script: this project's own format.
 use Rattle.std.specs.Prelude.{ℕ, List, [], ◌∷◌, ◌++◌, codes}
-use Rattle.std.specs.List.{flat_map}
+use Rattle.std.specs.List.{join_by}
 use Rattle.sa_lines.specs.Quotes.{quoted}
 use Rattle.sa_text.specs.declared.value.Value.{Value}
 use Rattle.sa_text.specs.declared.value.Value.TheVariants.{Missing, Of}
@@ -12,11 +12,6 @@ abbrev pub value_bytes : Value → List ℕ
 value_bytes Missing = codes "na"
 value_bytes (Of text) = quoted text
 
--- values with a comma between two of them
-abbrev pub commas : List Value → List ℕ
-commas [] = []
-commas (v ∷ vs) = value_bytes v ++ flat_map (λ w. 44 ∷ value_bytes w) vs
-
--- a list in brackets
+-- values with a comma between two of them, in brackets
 abbrev pub list_bytes : Items → List ℕ
-list_bytes (Values values) = 40 ∷ (commas values ++ 41 ∷ [])
+list_bytes (Values values) = 40 ∷ (join_by value_bytes (44 ∷ []) values ++ 41 ∷ [])

@@ -1,6 +1,6 @@
 ghost use Rattle.std.specs.Prelude.{◌≡◌, ◌++◌, ◌∷◌, [], OnOk};
-ghost use Rattle.std.specs.List.{flat_map};
-ghost use Rattle.sa_plain.specs.Written.{value_bytes, commas, list_bytes};
+ghost use Rattle.std.specs.List.{flat_map, join_by};
+ghost use Rattle.sa_plain.specs.Written.{value_bytes, list_bytes};
 
 use crate::items::Items;
 use sa_base::Memory;
@@ -30,7 +30,7 @@ fn push_further(out: &mut Vec<u8>, values: &[Value]) -> Result<(), Memory>
 
 /// Writes values with a comma between two of them.
 fn push_values(out: &mut Vec<u8>, values: &[Value]) -> Result<(), Memory>
-    ensures { OnOk result (out.new.items ≡ out.old.items ++ commas values.now) }
+    ensures { OnOk result (out.new.items ≡ out.old.items ++ join_by value_bytes (44 ∷ []) values.now) }
 {
     match values.split_first() {
         None => Ok(()),

@@ -1,6 +1,6 @@
 ghost use Rattle.sa_report.specs.Naming.{NamesItsHistory};
 
-use sa_lines::{lines_again, tokens_again};
+use sa_lines::{lines_again, strict_again, tokens_again};
 
 /// A report names its history and its marks: both can be read back from its bytes.
 pub fn names_its_history()
@@ -8,4 +8,5 @@ pub fn names_its_history()
 {
     lines_again();
     tokens_again();
+    strict_again();
 }

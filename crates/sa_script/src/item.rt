@@ -1,8 +1,9 @@
 ghost use Rattle.std.specs.Prelude.{◌≡◌, ◌++◌, ◌∷◌, [], Option, Some, option_map, IfOk, length};
-ghost use Rattle.sa_script.specs.Items.{text_at, text_token, item_at, further_at, items_at, of_text, one_more, list_of, missing_at};
+ghost use Rattle.sa_text.specs.Texts.{text_of};
+ghost use Rattle.sa_script.specs.Items.{fitting, text_at, text_token, item_at, further_at, items_at, of_text, one_more, list_of, missing_at};
 
 use sa_base::Memory;
-use sa_lines::{first, quoted_at};
+use sa_lines::{first, plain_at, quoted_at};
 use sa_plain::ValueList;
 use sa_text::{Text, TextError, Value};
 use std::alloc::Global;
@@ -10,7 +11,20 @@ use std::alloc::Global;
 /// The most items of one literal list.
 const MOST_ITEMS: usize = 8192;
 
-/// Reads a quoted text at the front, none inside where it is too long, and what follows it.
+/// The text that bytes are; none inside where they are too many, and none where they are no UTF-8.
+fn fitting(alloc: Global, bytes: &[u8]) -> Result<Option<Option<Text>>, Memory>
+    ensures { IfOk result (λ r. r ≡ fitting (text_of bytes.now)) }
+{
+    match Text::from_bytes(alloc, bytes) {
+        Ok(text) => Ok(Some(Some(text))),
+        Err(TextError::TooLong) => Ok(Some(None)),
+        Err(TextError::NotUtf8) => Ok(None),
+        Err(TextError::Memory) => Err(Memory),
+    }
+}
+
+/// Reads a quoted text at the front, none inside where it is too long, and what follows it. A text
+/// without escapes is read where it stands.
 fn text_at<'a>(
     alloc: Global,
     scratch: &mut Vec<u8>,
@@ -18,14 +32,18 @@ fn text_at<'a>(
 ) -> Result<Option<(Option<Text>, &'a [u8])>, Memory>
     ensures { IfOk result (λ r. option_map (λ x. (x.0, x.1.now)) r ≡ text_at bytes.now) }
 {
+    if let Some((text, size, rest)) = plain_at(bytes) {
+        return match fitting(alloc, &text[..size])? {
+            Some(text) => Ok(Some((text, rest))),
+            None => Ok(None),
+        };
+    }
     let Some(rest) = quoted_at(scratch, bytes)? else {
         return Ok(None);
     };
-    match Text::from_bytes(alloc, scratch.as_slice()) {
-        Ok(text) => Ok(Some((Some(text), rest))),
-        Err(TextError::TooLong) => Ok(Some((None, rest))),
-        Err(TextError::NotUtf8) => Ok(None),
-        Err(TextError::Memory) => Err(Memory),
+    match fitting(alloc, scratch.as_slice())? {
+        Some(text) => Ok(Some((text, rest))),
+        None => Ok(None),
     }
 }
 

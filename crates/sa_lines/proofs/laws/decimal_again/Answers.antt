@@ -1,4 +1,4 @@
-use Rattle.sa_lines.proofs.LawLemmas.{decimal_again}
+use Rattle.sa_lines.proofs.NumberLaws.{decimal_again}
 use Rattle.sa_lines.proofs.laws.decimal_again.Goals as goal
 
 pub returns : goal.returns

@@ -1,6 +1,6 @@
 use Rattle.std.proofs.Common.{◌≡◌, ℕ, List, ◌++◌, length, Some}
-use Rattle.sa_lines.specs.Tokens.{leads}
-use Rattle.sa_lines.specs.declared.token.Place.TheVariants.{Between}
+use Rattle.sa_lines.specs.Tokens.{Between, leads}
+use Rattle.sa_lines.specs.TokenSteps.{state_of}
 use Rattle.sa_lines.proofs.token.next_token.Given as goal
 
 abbrev pub invariant-bytes : goal.invariant-bytes
@@ -8,7 +8,7 @@ invariant-bytes l = record {
   token : List ℕ;
   cut : l.begun ≡ token ++ l.rest;
   long : length token ≡ l.end;
-  leads_here : leads Between token ≡ Some l.place;
+  leads_here : leads Between token ≡ Some (state_of l.state);
 }
 
 abbrev pub decreases-bytes : goal.decreases-bytes

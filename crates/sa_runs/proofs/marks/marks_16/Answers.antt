@@ -1,0 +1,6 @@
+use Rattle.std.proofs.Common.{arith}
+use Rattle.sa_runs.proofs.MarkLemmas.{masked}
+use Rattle.sa_runs.proofs.marks.marks_16.Goals as goal
+
+pub returns : goal.returns
+returns c = masked c.args.bytes 16 c.requires (omega arith)
