@@ -1,6 +1,9 @@
-ghost use Rattle.std.specs.Prelude.{◌≡◌, ◌≤◌, ◌<◌, ◌^◌, ◌==◌, [], length, take, IfOk};
+ghost use Rattle.std.specs.Prelude.{◌≡◌, ◌+◌, ◌≤◌, ◌<◌, ◌==◌, [], length, take, drop, IfOk};
+ghost use Rattle.std.specs.Arc.{arc_value};
 ghost use Rattle.std.specs.Str.{bytes_eq};
+ghost use Rattle.sa_bytes.specs.Limits.{most_shared};
 
+use crate::block::Block;
 use sa_base::Memory;
 use std::alloc::Global;
 use std::marker::Model;
@@ -8,33 +11,27 @@ use std::mem::size_of;
 use std::sync::Arc;
 
 /// The most bytes that stand inside a value.
-const INSIDE_MOST: usize = 16;
+pub const INSIDE_MOST: usize = 14;
 
-/// The most bytes that stand in one counted block.
-const BLOCK_MOST: usize = 64;
+const _: () = prove!(size_of::<SharedBytes>() == 16);
 
-const _: () = prove!(size_of::<SharedBytes>() == 24);
-
-/// Where the bytes stand: inside the value, at the front of a counted block, or in a counted vector.
-/// Each keeps how many there are, so no size is looked for behind a reference.
+/// Where the bytes stand: inside the value, or as a part of a counted block. A part has at least one
+/// byte, and keeps the place of its last one behind its first, so that 65,536 bytes can be told.
 #[derive(Debug, Drop)]
-enum Held {
+pub(crate) enum Held {
     Inside {
-        size: u32,
+        size: u8,
         bytes: [u8; INSIDE_MOST],
     },
-    Block {
-        size: u32,
-        bytes: Arc<[u8; BLOCK_MOST]>,
-    },
-    Long {
-        size: u32,
-        bytes: Arc<Vec<u8>>,
+    Part {
+        last: u16,
+        start: u32,
+        block: Arc<Vec<u8>>,
     },
 }
 
-/// Bytes that never change. Up to 16 stand inside the value; more are shared by all copies, which are
-/// counted. Contracts see the list of bytes.
+/// Bytes that never change, at most 65,536. Up to 14 stand inside the value; more are a part of a block
+/// that all copies share, which are counted. Contracts see the list of bytes.
 #[derive(Debug, Drop)]
 pub struct SharedBytes {
     held: Held,
@@ -65,33 +62,54 @@ impl SharedBytes {
         SharedBytes { held }
     }
 
-    /// The bytes of a slice of less than 4 GiB. Up to 16 take no memory, up to 64 one allocation, and
-    /// more take two. `Memory` where one is refused.
+    /// The bytes of a slice of at most 65,536. Up to 14 take no memory, and more take two allocations.
+    /// `Memory` where one is refused.
     #[inline]
     pub fn from_slice(alloc: Global, bytes: &[u8]) -> Result<SharedBytes, Memory>
-        requires { length bytes.now < 2 ^ 32 }
+        requires { length bytes.now ≤ most_shared }
         ensures { IfOk result (λ b. b ≡ bytes.now) }
     {
         SharedBytes::from_front(alloc, bytes, bytes.len())
     }
 
-    /// The first `size` bytes of a slice, fewer than 2^32. Of a slice that has bytes behind them some of
+    /// The first `size` bytes of a slice, at most 65,536. Of a slice that has bytes behind them some of
     /// those are copied too, and count for nothing: a copy whose size is known when the program is built
     /// is much faster. `Memory` where an allocation is refused.
     #[inline(always)]
     pub fn from_front(alloc: Global, bytes: &[u8], size: usize) -> Result<SharedBytes, Memory>
         requires within { size ≤ length bytes.now }
-        requires few { size < 2 ^ 32 }
+        requires few { size ≤ most_shared }
         ensures { IfOk result (λ b. b ≡ take size bytes.now) }
     {
-        if size > INSIDE_MOST {
-            return shared(alloc, bytes, size);
+        if size <= INSIDE_MOST {
+            return Ok(SharedBytes::inside(bytes, size));
         }
+        Block::new(alloc, Vec::from_slice(alloc, &bytes[..size])?)?.part(0, size)
+    }
+
+    /// The first `size` bytes of a slice, which stand inside the value.
+    #[inline(always)]
+    pub(crate) fn inside(bytes: &[u8], size: usize) -> SharedBytes
+        requires within { size ≤ length bytes.now }
+        requires fits { size ≤ INSIDE_MOST }
+        ensures { result ≡ take size bytes.now }
+    {
         let held = Held::Inside {
-            size: size as u32,
-            bytes: inside(bytes, size),
+            size: size as u8,
+            bytes: front(bytes, size),
         };
-        Ok(SharedBytes { held })
+        SharedBytes { held }
+    }
+
+    /// What a block holds from a place on, up to the byte that stands `last` places behind it.
+    #[inline(always)]
+    pub(crate) fn of_part(last: u16, start: u32, block: Arc<Vec<u8>>) -> SharedBytes
+        requires { start + last < length (arc_value block).items }
+        ensures { result ≡ take (last + 1) (drop start (arc_value block).items) }
+    {
+        SharedBytes {
+            held: Held::Part { last, start, block },
+        }
     }
 
     /// The same bytes once more. It takes no memory: of bytes that are shared it counts the copy, and
@@ -105,13 +123,10 @@ impl SharedBytes {
                 size: *size,
                 bytes: *bytes,
             },
-            Held::Block { size, bytes } => Held::Block {
-                size: *size,
-                bytes: Arc::try_clone(bytes)?,
-            },
-            Held::Long { size, bytes } => Held::Long {
-                size: *size,
-                bytes: Arc::try_clone(bytes)?,
+            Held::Part { last, start, block } => Held::Part {
+                last: *last,
+                start: *start,
+                block: Arc::try_clone(block)?,
             },
         };
         Ok(SharedBytes { held })
@@ -120,12 +135,15 @@ impl SharedBytes {
     /// The bytes, lent.
     #[inline]
     pub fn as_slice(&self) -> &[u8]
-        ensures { result.now ≡ self.now }
+        ensures bytes { result.now ≡ self.now }
+        ensures most { length result.now ≤ most_shared }
     {
         match &self.held {
             Held::Inside { size, bytes } => &bytes[..*size as usize],
-            Held::Block { size, bytes } => &bytes[..*size as usize],
-            Held::Long { bytes, .. } => bytes.as_slice(),
+            Held::Part { last, start, block } => {
+                let rest = &block.as_slice()[*start as usize..];
+                &rest[..*last as usize + 1]
+            }
         }
     }
 
@@ -137,8 +155,7 @@ impl SharedBytes {
         match &self.held {
             // the length of a slice is its size, and no byte is read for it
             Held::Inside { size, bytes } => bytes[..*size as usize].len(),
-            Held::Block { size, bytes } => bytes[..*size as usize].len(),
-            Held::Long { size, .. } => *size as usize,
+            Held::Part { last, .. } => *last as usize + 1,
         }
     }
 
@@ -161,7 +178,7 @@ impl SharedBytes {
 
 /// An array that begins with the first `size` bytes of a slice. What stands behind them is any bytes.
 #[inline(always)]
-fn inside(bytes: &[u8], size: usize) -> [u8; INSIDE_MOST]
+fn front(bytes: &[u8], size: usize) -> [u8; INSIDE_MOST]
     requires within { size ≤ length bytes.now }
     requires fits { size ≤ INSIDE_MOST }
     ensures { take size result ≡ take size bytes.now }
@@ -173,26 +190,4 @@ fn inside(bytes: &[u8], size: usize) -> [u8; INSIDE_MOST]
     }
     array[..size].copy_from_slice(&bytes[..size]);
     array
-}
-
-/// The first `size` bytes of a slice behind a counted reference.
-fn shared(alloc: Global, bytes: &[u8], size: usize) -> Result<SharedBytes, Memory>
-    requires within { size ≤ length bytes.now }
-    requires few { size < 2 ^ 32 }
-    ensures { IfOk result (λ b. b ≡ take size bytes.now) }
-{
-    let held = if size <= BLOCK_MOST {
-        let mut block = [0; BLOCK_MOST];
-        block[..size].copy_from_slice(&bytes[..size]);
-        Held::Block {
-            size: size as u32,
-            bytes: Arc::new(alloc, block)?,
-        }
-    } else {
-        Held::Long {
-            size: size as u32,
-            bytes: Arc::new(alloc, Vec::from_slice(alloc, &bytes[..size])?)?,
-        }
-    };
-    Ok(SharedBytes { held })
 }

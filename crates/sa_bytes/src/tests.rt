@@ -1,4 +1,4 @@
-use crate::SharedBytes;
+use crate::{Block, SharedBytes};
 use std::test::Fail;
 
 /// Takes a value whose type may go to other threads, by value and by reference.
@@ -10,7 +10,7 @@ fn goes_to_threads<T: Send + Sync>(value: &T) -> &T {
 fn bytes_are_kept_and_copied(rt: HostRuntime) -> Result<(), Fail> {
     let alloc = rt.alloc();
     let all = vec![in alloc; b'x'; 65_600]?;
-    for size in [0, 1, 15, 16, 17, 63, 64, 65, 65_536] {
+    for size in [0, 1, 13, 14, 15, 16, 17, 64, 65_535, 65_536] {
         assert!(rt; size <= all.len());
         let bytes = SharedBytes::from_slice(alloc, &all[..size])?;
         let front = SharedBytes::from_front(alloc, &all, size)?;
@@ -47,5 +47,23 @@ fn other_bytes_are_not_the_same(rt: HostRuntime) -> Result<(), Fail> {
         let other = SharedBytes::from_slice(alloc, second)?;
         assert_eq!(rt; one.is_same(&other), same, "of {first:?} and {second:?}");
     }
+    Ok(())
+}
+
+#[test]
+fn parts_of_a_block_are_its_bytes(rt: HostRuntime) -> Result<(), Fail> {
+    let alloc = rt.alloc();
+    let letters = b"abcdefghijklmnopqrstuvwxyz";
+    let block = Block::new(alloc, Vec::from_slice(alloc, letters)?)?;
+    for (start, size) in [(0, 26), (0, 14), (1, 15), (11, 15), (26, 0), (25, 1), (5, 20)] {
+        assert!(rt; start + size <= letters.len());
+        let part = block.part(start, size)?;
+        assert_eq!(rt; part.len(), size);
+        assert!(rt; part.as_slice() == &letters[start..start + size], "of {start} and {size}");
+    }
+    // a part outlives its block
+    let part = block.part(3, 18)?;
+    drop(block);
+    assert!(rt; part.as_slice() == b"defghijklmnopqrstu".as_slice());
     Ok(())
 }

@@ -1,10 +1,10 @@
-ghost use Rattle.std.specs.Prelude.{◌≡◌, ◌≤◌, length, take, IfOk, IsUtf8, encode_utf8_all};
+ghost use Rattle.std.specs.Prelude.{◌≡◌, ◌+◌, ◌≤◌, length, take, drop, IfOk, IsUtf8, encode_utf8_all};
 ghost use Rattle.std.specs.Str.{chars, bytes_eq};
 ghost use Rattle.sa_text.specs.Texts.{Gives, text_of, text_size, most_bytes};
 
 use crate::text_error::TextError;
 use sa_base::Memory;
-use sa_bytes::SharedBytes;
+use sa_bytes::{Block, SharedBytes};
 use std::alloc::Global;
 use std::marker::Model;
 
@@ -70,6 +70,19 @@ impl Text {
         ensures { IfOk result (λ t. t ≡ chars (take size bytes.now)) }
     {
         let bytes = SharedBytes::from_front(alloc, bytes, size)?;
+        Ok(Text { bytes })
+    }
+
+    /// The text of a part of a block, whose bytes are UTF-8 and at most 65,536. It takes no memory;
+    /// `Memory` means that the block has too many parts to be counted.
+    #[inline]
+    pub fn of_part(block: &Block, start: usize, size: usize) -> Result<Text, Memory>
+        requires within { start + size ≤ length block.now }
+        requires utf8 { IsUtf8 (take size (drop start block.now)) }
+        requires short { size ≤ most_bytes }
+        ensures { IfOk result (λ t. t ≡ chars (take size (drop start block.now))) }
+    {
+        let bytes = block.part(start, size)?;
         Ok(Text { bytes })
     }
 

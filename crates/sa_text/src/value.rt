@@ -4,6 +4,9 @@ ghost use Rattle.sa_text.specs.Values.{is_missing};
 use crate::text::Text;
 use sa_base::Memory;
 use std::alloc::Global;
+use std::mem::size_of;
+
+const _: () = prove!(size_of::<Value>() == 24);
 
 /// A value of a strings array: missing, or a text.
 #[derive(Debug, Drop)]

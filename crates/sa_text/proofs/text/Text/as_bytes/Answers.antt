@@ -5,6 +5,6 @@ use Rattle.sa_text.proofs.text.Text.as_bytes.Goals as goal
 
 pub returns-clause-bytes : goal.returns-clause-bytes
 returns-clause-bytes c =
-    c.as_slice.ensures
+    c.as_slice.ensures.bytes
     ∙ sym (encodes-chars c.self.inside.bytes c.self.invariant.0)
     ∙ ap encode_utf8_all c.self.view_is
