@@ -1,16 +1,18 @@
 -- Laws of layouts: a put keeps one sound, and changes the value of its entry alone.
-use Rattle.std.proofs.Common.{◌≡◌, ◌≤◌, ◌<◌, ◌≢◌, ◌+◌, nat_lt, ℕ, zero, suc, Bool, true, false, cond, List, [], ◌∷◌, ◌++◌, length, map, sum, replicate, count_by, Some, None, unwrap_or, refl, sym, ap, ◌∙◌, inl, inr, arith, get_or, set, length-set, length-append, subst, get_or-set_other}
+use Rattle.std.proofs.Common.{◌≡◌, ◌≤◌, ◌<◌, ◌≢◌, ◌+◌, nat_lt, ℕ, zero, suc, Bool, true, false, cond, List, [], ◌∷◌, ◌++◌, length, map, sum, count_by, Some, None, unwrap_or, refl, sym, ap, ◌∙◌, inl, inr, arith, get_or, set, length-set, length-append, subst, get_or-set_other}
 use Rattle.std.proofs.lemmas.Grind.{common_steps}
-use Rattle.std.proofs.lemmas.Bool.{cases_Bool, cases_lt, eq-eqb, leb-true}
+use Rattle.std.proofs.lemmas.Bool.{cases_Bool, cases_lt, eq-eqb, leb-true, lt-ltb, le-ltb}
 use Rattle.std.proofs.lemmas.Bool.Decides.{eqb_tells}
-use Rattle.std.proofs.lemmas.List.Sums.{sum_by-cons, sum_by-set, get_or-le-sum_by}
-use Rattle.std.proofs.Math.Dec.{eqb}
+use Rattle.std.proofs.lemmas.List.{length-map, set_past}
+use Rattle.std.proofs.lemmas.List.Folds.{sum_by-replicate}
+use Rattle.std.proofs.lemmas.List.Sums.{sum_by-set, get_or-le-sum_by}
+use Rattle.std.proofs.Math.Dec.{eqb, eqb-suc-suc, eqb-suc-zero, eqb-zero-suc}
 use Rattle.sa_text.specs.declared.value.Value.{Value}
 use Rattle.sa_text.specs.declared.value.Value.TheVariants as value
 use Rattle.sa_text.specs.Texts.{text_size}
 use Rattle.sa_arena.specs.Extents.{Extent, extent_at, is_live, with_text, trimmed, has_text}
 use Rattle.sa_arena.proofs.ExtentLemmas.{live-below, trimmed-live, trimmed-extent_at, trimmed-twice, extent_at-end, extent_at-append, extent_at-with_text, extent_at-with_text_other}
-use Rattle.sa_alloc.specs.Layouts.{Layout, State, Fresh, Inline, In, Out, Miss, Brought, Nothing, Short, Long, brought, opening_layout, extents_after, state_after, state_at, put, IsSound, is_in, one_if, new_extent, fits_in, values_of, value_in, extent_text}
+use Rattle.sa_alloc.specs.Layouts.{Layout, State, Fresh, In, Brought, Nothing, Short, Long, brought, opening_layout, extents_after, state_after, state_at, put_within, put, IsSound, is_in, one_if, new_extent, fits_in, values_of, value_in, extent_text}
 
 -- counts of members of a list
 
@@ -51,21 +53,11 @@ map-set_but f g (y ∷ ys) (suc i) x d same =
 
 -- which extents are live after a change
 
-pub eqb-ne : (a b : ℕ) → a ≢ b → eqb a b ≡ false
-eqb-ne a b ne = elim (eqb_tells a b) [ inl w ↦ absurd (ne w.1) | inr w ↦ w.0 ]
-
-pub eqb-suc : (a b : ℕ) → eqb (suc a) (suc b) ≡ eqb a b
-eqb-suc a b =
-    elim (eqb_tells a b) [
-      | inl w ↦ eq-eqb (suc a) (suc b) (ap suc w.1) ∙ sym w.0
-      | inr w ↦ eqb-ne (suc a) (suc b) (λ e. w.1 (omega arith)) ∙ sym w.0
-    ]
-
 pub live-push : (es : List Extent) (e : Extent) (k : ℕ) → has_text e ≡ true → one_if (is_live (es ++ e ∷ []) k) ≡ one_if (is_live es k) + one_if (eqb (length es) k)
 live-push [] e zero t = rw t refl
-live-push [] e (suc k) t = let f_is : eqb 0 (suc k) ≡ false = eqb-ne 0 (suc k) (λ e. absurd (omega arith)) in rw f_is refl
-live-push (x ∷ es) e zero t = let f_is : eqb (suc (length es)) 0 ≡ false = eqb-ne (suc (length es)) 0 (λ e. absurd (omega arith)) in rw f_is (omega arith)
-live-push (x ∷ es) e (suc k) t = live-push es e k t ∙ ap (λ b. one_if (is_live es k) + one_if b) (sym (eqb-suc (length es) k))
+live-push [] e (suc k) t = rw (eqb-zero-suc k) refl
+live-push (x ∷ es) e zero t = rw (eqb-suc-zero (length es)) (omega arith)
+live-push (x ∷ es) e (suc k) t = live-push es e k t ∙ ap (λ b. one_if (is_live es k) + one_if b) (sym (eqb-suc-suc (length es) k))
 
 pub live-with_none : (es : List Extent) (j k : ℕ) → is_live es j ≡ true → one_if (is_live (with_text es j None) k) + one_if (eqb j k) ≡ one_if (is_live es k)
 live-with_none es j k t =
@@ -135,20 +127,13 @@ all_live-trimmed P es held n live =
 
 -- the extent that a state names is live
 abbrev pub Named : List Extent → State → Type 0
-Named es Fresh = Unit {0}
-Named es (Inline text) = Unit {0}
 Named es (In k) = is_live es k ≡ true
-Named es (Out text) = Unit {0}
-Named es Miss = Unit {0}
+Named es other = Unit {0}
 
 pub named_at : (l : Layout) (i : ℕ) → IsSound l → i < length l.states → Named l.extents (state_at l.states i)
 named_at l i sound h = by_state (state_at l.states i) refl
   where
     by_state : (s : State) → state_at l.states i ≡ s → Named l.extents s
-    by_state Fresh e = tt
-    by_state (Inline text) e = tt
-    by_state (Out text) e = tt
-    by_state Miss e = tt
     by_state (In k) e =
         let here : is_in k (state_at l.states i) ≡ true = ap (is_in k) e ∙ grind (arith, common_steps) in
         let some = counts_member (is_in k) l.states i Fresh h here in
@@ -157,75 +142,81 @@ named_at l i sound h = by_state (state_at l.states i) refl
           | inl t ↦ t
           | inr f ↦ let none : one_if (is_live l.extents k) ≡ 0 = rw f refl in absurd (omega arith)
         ]
+    by_state s e = tt
 
 -- what a put adds to the live extents, it adds to the names
-pub balance : (es : List Extent) (s : State) (b : Brought) (k : ℕ) → Named es s → one_if (is_live (extents_after es s b) k) + one_if (is_in k s) ≡ one_if (is_live es k) + one_if (is_in k (state_after es s b))
-balance es Fresh Nothing k n = refl
-balance es Fresh (Short t) k n = refl
-balance es Fresh (Long t) k n = let push = live-push es (new_extent t) k refl in omega arith
-balance es (Inline u) Nothing k n = refl
-balance es (Inline u) (Short t) k n = refl
-balance es (Inline u) (Long t) k n = refl
-balance es (Out u) Nothing k n = refl
-balance es (Out u) (Short t) k n = refl
-balance es (Out u) (Long t) k n = refl
-balance es Miss Nothing k n = refl
-balance es Miss (Short t) k n = refl
-balance es Miss (Long t) k n = refl
-balance es (In j) Nothing k n = let gone = live-with_none es j k n in omega arith
-balance es (In j) (Short t) k n = let gone = live-with_none es j k n in omega arith
-balance es (In j) (Long t) k n =
+pub balance : (es : List Extent) (b : Brought) (s : State) (k : ℕ) → Named es s → one_if (is_live (extents_after es s b) k) + one_if (is_in k s) ≡ one_if (is_live es k) + one_if (is_in k (state_after es s b))
+balance es (Long t) Fresh k n = let push = live-push es (new_extent t) k refl in omega arith
+balance es (Long t) (In j) k n =
     elim (cases_Bool (fits_in es j t)) [
       | inl t_is ↦ let same : one_if (is_live (with_text es j (Some t)) k) ≡ one_if (is_live es k) = ap one_if (live-with_some es j t k n) in rw t_is (omega arith)
       | inr f_is ↦ let gone = live-with_none es j k n in rw f_is (omega arith)
     ]
+balance es b (In j) k n = let gone = live-with_none es j k n in omega arith
+balance es b s k n = refl
 
 -- a live text fits into its extent
 
 abbrev pub HasRoom : Extent → Type 0
 HasRoom e = text_size (extent_text e) ≤ e.capacity
 
-pub room-after : (es : List Extent) (s : State) (b : Brought) → Named es s → AllLive HasRoom es → AllLive HasRoom (extents_after es s b)
-room-after es Fresh Nothing n room = room
-room-after es Fresh (Short t) n room = room
-room-after es Fresh (Long t) n room = all_live-push HasRoom es (new_extent t) (omega arith) room
-room-after es (Inline u) b n room = room
-room-after es (Out u) b n room = room
-room-after es Miss b n room = room
-room-after es (In j) Nothing n room = all_live-with_none HasRoom es j (live-below es j n) room
-room-after es (In j) (Short t) n room = all_live-with_none HasRoom es j (live-below es j n) room
-room-after es (In j) (Long t) n room =
+pub room-after : (es : List Extent) (b : Brought) (s : State) → Named es s → AllLive HasRoom es → AllLive HasRoom (extents_after es s b)
+room-after es (Long t) Fresh n room = all_live-push HasRoom es (new_extent t) (omega arith) room
+room-after es (Long t) (In j) n room =
     elim (cases_Bool (fits_in es j t)) [
       | inl t_is ↦
           let fits : text_size t ≤ (extent_at es j).capacity = leb-true (text_size t) (extent_at es j).capacity t_is in
           rw t_is (all_live-with_text HasRoom es j t (live-below es j n) fits room)
       | inr f_is ↦ rw f_is (all_live-with_none HasRoom es j (live-below es j n) room)
     ]
+room-after es b (In j) n room = all_live-with_none HasRoom es j (live-below es j n) room
+room-after es b s n room = room
 
-pub put-sound : (l : Layout) (i : ℕ) (v : Value) → IsSound l → i < length l.states → IsSound (put l i v)
-put-sound l i v sound h = record {
+-- a put into an entry that exists, and into none
+pub put-within : (l : Layout) (i : ℕ) (v : Value) → i < length l.states → put l i v ≡ put_within l i v
+put-within l i v h = let t_is = lt-ltb i (length l.states) h in rw t_is refl
+
+pub put-past : (l : Layout) (i : ℕ) (v : Value) → length l.states ≤ i → put l i v ≡ l
+put-past l i v h = let f_is = le-ltb i (length l.states) h in rw f_is refl
+
+pub within-sound : (l : Layout) (i : ℕ) (v : Value) → IsSound l → i < length l.states → IsSound (put_within l i v)
+within-sound l i v sound h = record {
   named = λ k.
       let b = brought v in
       let s = state_at l.states i in
       let set_is = count-set (is_in k) l.states i (state_after l.extents s b) Fresh h in
-      let even = balance l.extents s b k (named_at l i sound h) in
+      let even = balance l.extents b s k (named_at l i sound h) in
       let trim : one_if (is_live (trimmed (extents_after l.extents s b)) k) ≡ one_if (is_live (extents_after l.extents s b) k) = ap one_if (trimmed-live (extents_after l.extents s b) k) in
       let before = sound.named k in
       omega arith;
   room =
       let b = brought v in
       let s = state_at l.states i in
-      all_live-trimmed HasRoom (extents_after l.extents s b) (room-after l.extents s b (named_at l i sound h) sound.room);
+      all_live-trimmed HasRoom (extents_after l.extents s b) (room-after l.extents b s (named_at l i sound h) sound.room);
   last = trimmed-twice (extents_after l.extents (state_at l.states i) (brought v));
 }
 
-pub count-replicate : (k n : ℕ) → count_by (is_in k) (replicate n Fresh) ≡ 0
-count-replicate k zero = refl
-count-replicate k (suc n) = sum_by-cons (λ x. cond (is_in k x) 1 0) Fresh (replicate n Fresh) ∙ ap (λ m. 0 + m) (count-replicate k n)
+pub put-sound : (l : Layout) (i : ℕ) (v : Value) → IsSound l → IsSound (put l i v)
+put-sound l i v sound =
+    elim (cases_lt i (length l.states)) [
+      | inl below ↦ subst IsSound (sym (put-within l i v below)) (within-sound l i v sound below)
+      | inr past ↦ subst IsSound (sym (put-past l i v past)) sound
+    ]
+
+-- a put keeps the shape
+pub put-lengths : (l : Layout) (i : ℕ) (v : Value) → (put l i v).lengths ≡ l.lengths
+put-lengths l i v = elim (cases_Bool (nat_lt i (length l.states))) [ inl t_is ↦ rw t_is refl | inr f_is ↦ rw f_is refl ]
+
+pub put-entries : (l : Layout) (i : ℕ) (v : Value) → length (put l i v).states ≡ length l.states
+put-entries l i v =
+    elim (cases_Bool (nat_lt i (length l.states))) [
+      | inl t_is ↦ rw t_is (length-set l.states i (state_after l.extents (state_at l.states i) (brought v)))
+      | inr f_is ↦ rw f_is refl
+    ]
 
 pub opening-sound : (lengths : List ℕ) → IsSound (opening_layout lengths)
 opening-sound lengths = record {
-  named = λ k. count-replicate k (sum lengths);
+  named = λ k. sum_by-replicate (λ s. one_if (is_in k s)) (sum lengths) Fresh ∙ omega arith;
   room = λ k live. cc;
   last = refl;
 }
@@ -233,47 +224,30 @@ opening-sound lengths = record {
 -- the value of another entry stays
 
 abbrev pub Apart : ℕ → State → Type 0
-Apart k Fresh = Unit {0}
-Apart k (Inline text) = Unit {0}
 Apart k (In j) = j ≢ k
-Apart k (Out text) = Unit {0}
-Apart k Miss = Unit {0}
+Apart k other = Unit {0}
 
 -- two states name no extent in common
 abbrev pub Disjoint : State → State → Type 0
-Disjoint Fresh t = Unit {0}
-Disjoint (Inline text) t = Unit {0}
 Disjoint (In k) t = Apart k t
-Disjoint (Out text) t = Unit {0}
-Disjoint Miss t = Unit {0}
+Disjoint s t = Unit {0}
 
-pub text_in-after : (es : List Extent) (s : State) (b : Brought) (n : ℕ) → is_live es n ≡ true → Disjoint s (In n) → extent_at (extents_after es s b) n ≡ extent_at es n
-text_in-after es Fresh Nothing n live apart = refl
-text_in-after es Fresh (Short t) n live apart = refl
-text_in-after es Fresh (Long t) n live apart = extent_at-append es (new_extent t ∷ []) n (live-below es n live)
-text_in-after es (Inline u) b n live apart = refl
-text_in-after es (Out u) b n live apart = refl
-text_in-after es Miss b n live apart = refl
-text_in-after es (In j) Nothing n live apart = extent_at-with_text_other es j n None apart
-text_in-after es (In j) (Short t) n live apart = extent_at-with_text_other es j n None apart
-text_in-after es (In j) (Long t) n live apart =
+pub extent_at-after : (es : List Extent) (b : Brought) (s : State) (n : ℕ) → is_live es n ≡ true → Disjoint s (In n) → extent_at (extents_after es s b) n ≡ extent_at es n
+extent_at-after es (Long t) Fresh n live apart = extent_at-append es (new_extent t ∷ []) n (live-below es n live)
+extent_at-after es (Long t) (In j) n live apart =
     elim (cases_Bool (fits_in es j t)) [
       | inl t_is ↦ rw t_is (extent_at-with_text_other es j n (Some t) apart)
       | inr f_is ↦ rw f_is (extent_at-with_text_other es j n None apart)
     ]
+extent_at-after es b (In j) n live apart = extent_at-with_text_other es j n None apart
+extent_at-after es b s n live apart = refl
 
 pub value-other : (es : List Extent) (s : State) (b : Brought) (t : State) → Named es t → Disjoint s t → value_in (trimmed (extents_after es s b)) t ≡ value_in es t
-value-other es s b Fresh named apart = refl
-value-other es s b (Inline text) named apart = refl
-value-other es s b (Out text) named apart = refl
-value-other es s b Miss named apart = refl
 value-other es s b (In n) named apart =
-    let same = text_in-after es s b n named (in_apart s apart) in
+    let same = extent_at-after es b s n named apart in
     let live : is_live (extents_after es s b) n ≡ true = ap has_text same ∙ named in
     ap (λ e. value.Of (unwrap_or e.text [])) (trimmed-extent_at (extents_after es s b) n live ∙ same)
-  where
-    in_apart : (s : State) → Disjoint s (In n) → Disjoint s (In n)
-    in_apart s h = h
+value-other es s b t named apart = refl
 
 abbrev pub value_of : Brought → Value
 value_of Nothing = value.Missing
@@ -285,17 +259,12 @@ value_of-brought value.Missing = refl
 value_of-brought (value.Of text) =
     elim (cases_Bool (nat_lt (text_size text) 16)) [ inl t ↦ rw t refl | inr f ↦ rw f refl ]
 
-pub value-put : (es : List Extent) (s : State) (b : Brought) → Named es s → value_in (trimmed (extents_after es s b)) (state_after es s b) ≡ value_of b
-value-put es s Nothing n = refl
-value-put es s (Short t) n = refl
-value-put es (Inline u) (Long t) n = refl
-value-put es (Out u) (Long t) n = refl
-value-put es Miss (Long t) n = refl
-value-put es Fresh (Long t) n =
+pub value-put : (es : List Extent) (b : Brought) (s : State) → Named es s → value_in (trimmed (extents_after es s b)) (state_after es s b) ≡ value_of b
+value-put es (Long t) Fresh n =
     let here = extent_at-end es (new_extent t) in
     let live : is_live (es ++ new_extent t ∷ []) (length es) ≡ true = ap has_text here in
     ap (λ e. value.Of (unwrap_or e.text [])) (trimmed-extent_at (es ++ new_extent t ∷ []) (length es) live ∙ here)
-value-put es (In j) (Long t) n =
+value-put es (Long t) (In j) n =
     elim (cases_Bool (fits_in es j t)) [
       | inl t_is ↦
           let here = extent_at-with_text es j (Some t) (live-below es j n) in
@@ -303,19 +272,12 @@ value-put es (In j) (Long t) n =
           rw t_is (ap (λ e. value.Of (unwrap_or e.text [])) (trimmed-extent_at (with_text es j (Some t)) j live ∙ here))
       | inr f_is ↦ rw f_is refl
     ]
+value-put es b s n = refl
 
 pub disjoint_at : (l : Layout) (i j : ℕ) → IsSound l → i < length l.states → j < length l.states → j ≢ i → Disjoint (state_at l.states i) (state_at l.states j)
 disjoint_at l i j sound hi hj ne = by_states (state_at l.states i) (state_at l.states j) refl refl
   where
     by_states : (s t : State) → state_at l.states i ≡ s → state_at l.states j ≡ t → Disjoint s t
-    by_states Fresh t e f = tt
-    by_states (Inline u) t e f = tt
-    by_states (Out u) t e f = tt
-    by_states Miss t e f = tt
-    by_states (In k) Fresh e f = tt
-    by_states (In k) (Inline u) e f = tt
-    by_states (In k) (Out u) e f = tt
-    by_states (In k) Miss e f = tt
     by_states (In k) (In n) e f = λ same.
         let yes_i : is_in k (state_at l.states i) ≡ true = ap (is_in k) e ∙ eq-eqb k k refl in
         let yes_j : is_in k (state_at l.states j) ≡ true = ap (is_in k) f ∙ eq-eqb n k same in
@@ -323,12 +285,22 @@ disjoint_at l i j sound hi hj ne = by_states (state_at l.states i) (state_at l.s
         let count = sound.named k in
         let most : one_if (is_live l.extents k) ≤ 1 = elim (cases_Bool (is_live l.extents k)) [ inl t ↦ rw t (omega arith) | inr g ↦ rw g (omega arith) ] in
         absurd (omega arith)
+    by_states s t e f = tt
 
-pub values-put : (l : Layout) (i : ℕ) (v : Value) → IsSound l → i < length l.states → values_of (put l i v) ≡ set (values_of l) i v
-values-put l i v sound h =
+pub values-within : (l : Layout) (i : ℕ) (v : Value) → IsSound l → i < length l.states → values_of (put_within l i v) ≡ set (values_of l) i v
+values-within l i v sound h =
     let b = brought v in
     let s = state_at l.states i in
     let after = trimmed (extents_after l.extents s b) in
     map-set_but (value_in l.extents) (value_in after) l.states i (state_after l.extents s b) Fresh
     (λ j hj ne. value-other l.extents s b (state_at l.states j) (named_at l j sound hj) (disjoint_at l i j sound h hj ne))
-    ∙ ap (set (values_of l) i) (value-put l.extents s b (named_at l i sound h) ∙ value_of-brought v)
+    ∙ ap (set (values_of l) i) (value-put l.extents b s (named_at l i sound h) ∙ value_of-brought v)
+
+pub values-put : (l : Layout) (i : ℕ) (v : Value) → IsSound l → values_of (put l i v) ≡ set (values_of l) i v
+values-put l i v sound =
+    elim (cases_lt i (length l.states)) [
+      | inl below ↦ ap values_of (put-within l i v below) ∙ values-within l i v sound below
+      | inr past ↦
+          let count = length-map l.states (value_in l.extents) in
+          ap values_of (put-past l i v past) ∙ sym (set_past (values_of l) i v (omega arith))
+    ]

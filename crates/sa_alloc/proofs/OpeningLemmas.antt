@@ -7,7 +7,9 @@ use Rattle.sa_arena.specs.Extents.{Extent}
 use Rattle.sa_alloc.specs.Layouts as layouts
 use Rattle.sa_alloc.specs.Layouts.{Layout, State, IsSound, opening_layout, one_if}
 use Rattle.sa_alloc.specs.Ties.{IsSmall, IsStore, state_of, layout_from, IsTied, slot_at, is_at_key, is_outside, Fits}
+use Rattle.sa_alloc.specs.StoreValues.{StoreValue, opening_contents}
 use Rattle.sa_alloc.proofs.LayoutLemmas.{opening-sound}
+use Rattle.sa_alloc.proofs.StoreLemmas.{stored}
 
 states-fresh : (es : List Extent) (ks : List (Option (List ℕ))) (n : ℕ) → map (state_of es ks) (replicate n Fresh) ≡ replicate n layouts.Fresh
 states-fresh es ks zero = refl
@@ -43,9 +45,12 @@ opened-store lengths items starts es ks ss total count items_is es_is ks_is ss_i
     let it : IsStore lengths starts [] [] (replicate (sum lengths) Fresh) = record { tied = opened lengths; starts_are = (same, starts_are); small = small } in
     subst (λ x. IsStore x starts es ks ss) (sym items_is) (subst (λ x. IsStore lengths starts x ks ss) (sym es_is) (subst (λ x. IsStore lengths starts [] x ss) (sym ks_is) (subst (IsStore lengths starts [] []) (sym ss_all) it)))
 
-pub opened-view : (lengths items : List ℕ) (es : List Extent) (ks : List (Option (List ℕ))) (ss : List Slot) (total count : ℕ)
-    → items ≡ lengths → es ≡ [] → ks ≡ [] → ss ≡ replicate total Fresh → total ≡ sum (take count lengths) → length lengths ≤ count
-    → layout_from items es ks ss ≡ opening_layout lengths
-opened-view lengths items es ks ss total count items_is es_is ks_is ss_is total_is all =
-    let ss_all : ss ≡ replicate (sum lengths) Fresh = ss_is ∙ ap (λ n. replicate n Fresh) (total_is ∙ ap sum (take_all count lengths all)) in
-    ap (λ x. layout_from x es ks ss) items_is ∙ ap (λ x. layout_from lengths x ks ss) es_is ∙ ap (λ x. layout_from lengths [] x ss) ks_is ∙ ap (layout_from lengths [] []) ss_all ∙ opened-layout lengths
+pub opened-view : (lengths items : List ℕ) (es : List Extent) (ks : List (Option (List ℕ))) (ss : List Slot) (total count size spare : ℕ)
+    → items ≡ lengths → es ≡ [] → ks ≡ [] → ss ≡ replicate total Fresh → total ≡ sum (take count lengths) → length lengths ≤ count → size ≡ 0 → spare ≡ 0
+    → stored items es ks ss size spare ≡ (let s : StoreValue = record { contents = opening_contents lengths; room = record { size = 0; spare = 0 } } in s)
+opened-view lengths items es ks ss total count size spare items_is es_is ks_is ss_is total_is all size_is spare_is =
+    let fresh = replicate (sum lengths) Fresh in
+    let ss_all : ss ≡ fresh = ss_is ∙ ap (λ n. replicate n Fresh) (total_is ∙ ap sum (take_all count lengths all)) in
+    ap (λ x. stored x es ks ss size spare) items_is ∙ ap (λ x. stored lengths x ks ss size spare) es_is ∙ ap (λ x. stored lengths [] x ss size spare) ks_is ∙ ap (λ x. stored lengths [] [] x size spare) ss_all
+    ∙ ap (λ n. stored lengths [] [] fresh n spare) size_is ∙ ap (stored lengths [] [] fresh 0) spare_is
+    ∙ ap (λ l. let s : StoreValue = record { contents = record { layout = l; slots = fresh; texts = [] }; room = record { size = 0; spare = 0 } } in s) (opened-layout lengths)

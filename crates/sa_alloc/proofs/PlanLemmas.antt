@@ -1,21 +1,24 @@
 -- What a plan reserves is enough for its puts.
-use Rattle.std.proofs.Common.{◌≡◌, ◌≤◌, ◌<◌, ◌≢◌, ◌+◌, nat_le, ℕ, zero, suc, true, false, List, [], ◌∷◌, ◌++◌, length, take, Option, refl, sym, ap, ◌∙◌, inl, inr, arith, get_or, set, get_or-set_other}
-use Rattle.std.specs.List.{AllByRecursion, IsDistinct, zip, list_any}
+use Rattle.std.proofs.Common.{◌≡◌, ◌≤◌, ◌<◌, ◌≢◌, ◌+◌, nat_le, nat_lt, max, ◌/◌, ℕ, zero, suc, true, false, List, [], ◌∷◌, ◌++◌, length, map, take, Option, refl, sym, ap, ◌∙◌, subst, inl, inr, arith, get_or, get_or-set_other, if◌then◌else◌}
+use Rattle.std.specs.List.{AllByRecursion, IsDistinct, zip, list_any, sum_by}
 use Rattle.std.proofs.lemmas.Bool.{cases_Bool, leb-true}
 use Rattle.std.proofs.lemmas.Bool.Decides.{eqb_tells}
 use Rattle.std.proofs.lemmas.List.Sums.{sum_by-cons}
 use Rattle.std.proofs.lemmas.Map.Steps.{length-le_from_distinct_below}
 use Rattle.std.proofs.Math.Dec.{eqb}
 use Rattle.sa_text.specs.declared.value.Value.{Value}
-use Rattle.sa_entry.specs.Slots.{Slot, Fresh, Inline, InArena, Outside, Missing, form_of}
-use Rattle.sa_arena.specs.Extents.{Extent, Region, cursor_of}
+use Rattle.sa_entry.specs.Slots.{Slot, Fresh, InArena, form_of}
+use Rattle.sa_arena.specs.Extents.{Extent, Region, number_at, cursor_of}
 use Rattle.sa_arena.specs.Images.{grown_size}
+use Rattle.sa_alloc.specs.declared.needs.Needs.{Needs}
 use Rattle.sa_alloc.specs.Layouts as layouts
-use Rattle.sa_alloc.specs.Layouts.{Layout, State, Brought, Nothing, Short, Long, brought, state_at, fits_in, put, first_entry}
-use Rattle.sa_alloc.specs.Needs.{bytes_appended, keys_taken, bytes_needed, keys_needed}
-use Rattle.sa_alloc.specs.Plans.{keys_most, put_bytes, put_keys, all_bytes, all_keys, form_keys_most}
+use Rattle.sa_alloc.specs.Layouts.{Layout, State, Brought, Long, brought, state_at, fits_in, put}
+use Rattle.sa_alloc.specs.Needs.{bytes_appended, keys_taken, bytes_needed, keys_needed, needs_of, put_needs, bytes_most, keys_most}
+use Rattle.sa_alloc.specs.StoreValues.{StoreValue, region_of}
 use Rattle.sa_alloc.specs.Stores.{AreDistinct, HasRoom, puts_from}
-use Rattle.sa_alloc.specs.Ties.{state_of}
+use Rattle.sa_alloc.specs.Ties.{state_of, slot_at}
+use Rattle.sa_alloc.proofs.TieLemmas.{state_at-from}
+use Rattle.sa_alloc.proofs.StoreLemmas.{stored}
 
 -- puts of different entries
 
@@ -26,56 +29,60 @@ abbrev pub AllApart : List (ℕ × Value) → Type 0
 AllApart [] = Unit {0}
 AllApart (p ∷ ps) = AwayFrom p.0 ps × AllApart ps
 
-state-set : (states : List State) (i : ℕ) (s : State) (q : ℕ × Value) → q.0 ≢ i → state_at (set states i s) q.0 ≡ state_at states q.0
-state-set states i s q ne = get_or-set_other states i q.0 s layouts.Fresh ne
+-- what a put needs, by the state of its entry, is no more than this
+pub record NeedsMost (s : State) (b : Brought) (n : Needs) : Type 0 where
+  pub bytes : bytes_appended s b ≡ n.bytes
+  pub keys : (es : List Extent) → keys_taken es s b ≤ n.keys
 
-pub bytes-set : (states : List State) (i : ℕ) (s : State) (ps : List (ℕ × Value)) → AwayFrom i ps → all_bytes (set states i s) ps ≡ all_bytes states ps
-bytes-set states i s [] away = refl
-bytes-set states i s (q ∷ ps) away =
-    sum_by-cons (put_bytes (set states i s)) q ps
-    ∙ ap (λ x. bytes_appended x (brought q.1) + all_bytes (set states i s) ps) (state-set states i s q away.0)
-    ∙ ap (λ n. put_bytes states q + n) (bytes-set states i s ps away.1)
-    ∙ sym (sum_by-cons (put_bytes states) q ps)
+bytes-form : (es : List Extent) (ks : List (Option (List ℕ))) (b : Brought) (s : Slot) → bytes_appended (state_of es ks s) b ≡ (needs_of (form_of s) b).bytes
+bytes-form es ks (Long text) Fresh = refl
+bytes-form es ks (Long text) s = refl
+bytes-form es ks b s = refl
 
-pub keys-set : (states : List State) (i : ℕ) (s : State) (ps : List (ℕ × Value)) → AwayFrom i ps → all_keys (set states i s) ps ≡ all_keys states ps
-keys-set states i s [] away = refl
-keys-set states i s (q ∷ ps) away =
-    sum_by-cons (put_keys (set states i s)) q ps
-    ∙ ap (λ x. keys_most x (brought q.1) + all_keys (set states i s) ps) (state-set states i s q away.0)
-    ∙ ap (λ n. put_keys states q + n) (keys-set states i s ps away.1)
-    ∙ sym (sum_by-cons (put_keys states) q ps)
+keys-form : (es ds : List Extent) (ks : List (Option (List ℕ))) (b : Brought) (s : Slot) → keys_taken ds (state_of es ks s) b ≤ (needs_of (form_of s) b).keys
+keys-form es ds ks (Long text) (InArena at size long) = elim (cases_Bool (fits_in ds (number_at es at) text)) [ inl t_is ↦ rw t_is (omega arith) | inr f_is ↦ rw f_is (omega arith) ]
+keys-form es ds ks (Long text) s = omega arith
+keys-form es ds ks b s = omega arith
 
-pub bytes-all : (l : Layout) (ps : List (ℕ × Value)) → AllApart ps → bytes_needed l ps ≡ all_bytes l.states ps
-bytes-all l [] apart = refl
-bytes-all l (p ∷ ps) apart =
-    ap (λ n. put_bytes l.states p + n) (bytes-all (put l p.0 p.1) ps apart.1 ∙ bytes-set l.states p.0 _ ps apart.0)
-    ∙ sym (sum_by-cons (put_bytes l.states) p ps)
+state-other : (l : Layout) (i : ℕ) (v : Value) (q : ℕ) → q ≢ i → state_at (put l i v).states q ≡ state_at l.states q
+state-other l i v q ne =
+    elim (cases_Bool (nat_lt i (length l.states))) [
+      | inl t_is ↦ rw t_is (get_or-set_other l.states i q (layouts.state_after l.extents (state_at l.states i) (brought v)) layouts.Fresh ne)
+      | inr f_is ↦ rw f_is refl
+    ]
 
-keys-le : (es : List Extent) (s : State) (b : Brought) → keys_taken es s b ≤ keys_most s b
-keys-le es layouts.Fresh Nothing = omega arith
-keys-le es layouts.Fresh (Short t) = omega arith
-keys-le es layouts.Fresh (Long t) = omega arith
-keys-le es (layouts.Inline u) Nothing = omega arith
-keys-le es (layouts.Inline u) (Short t) = omega arith
-keys-le es (layouts.Inline u) (Long t) = omega arith
-keys-le es (layouts.Out u) Nothing = omega arith
-keys-le es (layouts.Out u) (Short t) = omega arith
-keys-le es (layouts.Out u) (Long t) = omega arith
-keys-le es layouts.Miss Nothing = omega arith
-keys-le es layouts.Miss (Short t) = omega arith
-keys-le es layouts.Miss (Long t) = omega arith
-keys-le es (layouts.In k) Nothing = omega arith
-keys-le es (layouts.In k) (Short t) = omega arith
-keys-le es (layouts.In k) (Long t) = elim (cases_Bool (fits_in es k t)) [ inl t_is ↦ rw t_is (omega arith) | inr f_is ↦ rw f_is (omega arith) ]
+abbrev pub AllNeedMost : List State → (ℕ × Value → Needs) → List (ℕ × Value) → Type 0
+AllNeedMost states n ps = AllByRecursion (λ (p : ℕ × Value). NeedsMost (state_at states p.0) (brought p.1) (n p)) ps
 
-pub keys-all : (l : Layout) (ps : List (ℕ × Value)) → AllApart ps → keys_needed l ps ≤ all_keys l.states ps
-keys-all l [] apart = omega arith
-keys-all l (p ∷ ps) apart =
-    let one = keys-le l.extents (state_at l.states p.0) (brought p.1) in
-    let others = keys-all (put l p.0 p.1) ps apart.1 in
-    let same = keys-set l.states p.0 (layouts.state_after l.extents (state_at l.states p.0) (brought p.1)) ps apart.0 in
-    let cons = sum_by-cons (put_keys l.states) p ps in
-    omega arith
+need-kept : (l : Layout) (i : ℕ) (v : Value) (n : ℕ × Value → Needs) (ps : List (ℕ × Value)) → AwayFrom i ps → AllNeedMost l.states n ps → AllNeedMost (put l i v).states n ps
+need-kept l i v n [] away all = tt
+need-kept l i v n (p ∷ ps) away all = (subst (λ s. NeedsMost s (brought p.1) (n p)) (sym (state-other l i v p.0 away.0)) all.0, need-kept l i v n ps away.1 all.1)
+
+pub needs-all : (l : Layout) (n : ℕ × Value → Needs) (ps : List (ℕ × Value)) → AllApart ps → AllNeedMost l.states n ps → (bytes_needed l ps ≡ sum_by (λ p. (n p).bytes) ps) × (keys_needed l ps ≤ sum_by (λ p. (n p).keys) ps)
+needs-all l n [] apart all = (refl, omega arith)
+needs-all l n (p ∷ ps) apart all =
+    let rest = needs-all (put l p.0 p.1) n ps apart.1 (need-kept l p.0 p.1 n ps apart.0 all.1) in
+    let bytes = sum_by-cons (λ p. (n p).bytes) p ps in
+    let keys = sum_by-cons (λ p. (n p).keys) p ps in
+    let one_bytes = all.0.bytes in
+    let one_keys = all.0.keys l.extents in
+    let rest_bytes = rest.0 in
+    let rest_keys = rest.1 in
+    (omega arith, omega arith)
+
+slots-need : (lengths : List ℕ) (es : List Extent) (ks : List (Option (List ℕ))) (ss : List Slot) (ps : List (ℕ × Value)) → AllNeedMost (map (state_of es ks) ss) (put_needs ss) ps
+slots-need lengths es ks ss [] = tt
+slots-need lengths es ks ss (p ∷ ps) =
+    let it : NeedsMost (state_of es ks (slot_at ss p.0)) (brought p.1) (put_needs ss p) = record { bytes = bytes-form es ks (brought p.1) (slot_at ss p.0); keys = λ ds. keys-form es ds ks (brought p.1) (slot_at ss p.0) } in
+    (subst (λ s. NeedsMost s (brought p.1) (put_needs ss p)) (sym (state_at-from es ks ss p.0)) it, slots-need lengths es ks ss ps)
+
+-- what the slots of a store tell of the needs of puts
+pub slots-tell : (lengths : List ℕ) (es : List Extent) (ks : List (Option (List ℕ))) (ss : List Slot) (size spare : ℕ) (now : StoreValue) (ps : List (ℕ × Value)) → stored lengths es ks ss size spare ≡ now → AllApart ps
+    → (bytes_needed now.contents.layout ps ≡ bytes_most now.contents.slots ps) × (keys_needed now.contents.layout ps ≤ keys_most now.contents.slots ps)
+slots-tell lengths es ks ss size spare now ps e apart =
+    let old = stored lengths es ks ss size spare in
+    subst (λ (n : StoreValue). (bytes_needed n.contents.layout ps ≡ bytes_most n.contents.slots ps) × (keys_needed n.contents.layout ps ≤ keys_most n.contents.slots ps)) e
+    (needs-all old.contents.layout (put_needs ss) ps apart (slots-need lengths es ks ss ps))
 
 -- the puts of a plan
 
@@ -106,11 +113,6 @@ zip-places n [] values all = tt
 zip-places n (p ∷ places) [] all = tt
 zip-places n (p ∷ places) (v ∷ values) all = (all.0, zip-places n places values all.1)
 
-pub length-zip : (places : List ℕ) (values : List Value) → length places ≡ length values → length (zip places values) ≡ length places
-length-zip [] values e = refl
-length-zip (p ∷ places) [] e = absurd (omega arith)
-length-zip (p ∷ places) (v ∷ values) e = ap suc (length-zip places values (omega arith))
-
 member-below : (n : ℕ) (places : List ℕ) → AllByRecursion (λ (p : ℕ). p < n) places → (q : ℕ) → list_any (eqb q) places ≡ true → q < n
 member-below n [] all q h = cc
 member-below n (p ∷ places) all q h =
@@ -131,42 +133,38 @@ zip-more (p ∷ places) [] k v h g = absurd (omega arith)
 zip-more (p ∷ places) (x ∷ values) zero v h g = refl
 zip-more (p ∷ places) (x ∷ values) (suc k) v h g = ap (λ ps. (p, x) ∷ ps) (zip-more places values k v (omega arith) (omega arith))
 
--- needs by forms
-
-pub keys_most-state : (es : List Extent) (ks : List (Option (List ℕ))) (s : Slot) (b : Brought) → form_keys_most (form_of s) b ≡ keys_most (state_of es ks s) b
-keys_most-state es ks Fresh Nothing = refl
-keys_most-state es ks Fresh (Short text) = refl
-keys_most-state es ks Fresh (Long text) = refl
-keys_most-state es ks (Inline bytes) Nothing = refl
-keys_most-state es ks (Inline bytes) (Short text) = refl
-keys_most-state es ks (Inline bytes) (Long text) = refl
-keys_most-state es ks (InArena at size long) Nothing = refl
-keys_most-state es ks (InArena at size long) (Short text) = refl
-keys_most-state es ks (InArena at size long) (Long text) = refl
-keys_most-state es ks (Outside key size) Nothing = refl
-keys_most-state es ks (Outside key size) (Short text) = refl
-keys_most-state es ks (Outside key size) (Long text) = refl
-keys_most-state es ks Missing Nothing = refl
-keys_most-state es ks Missing (Short text) = refl
-keys_most-state es ks Missing (Long text) = refl
-
 -- the room that a plan made
 
-pub grown-enough : (r : Region) (bytes : ℕ) → cursor_of r.extents + bytes ≤ grown_size r bytes
-grown-enough r bytes =
-    elim (cases_Bool (nat_le (cursor_of r.extents + bytes) r.size)) [
-      | inl t_is ↦ rw t_is (leb-true (cursor_of r.extents + bytes) r.size t_is)
+abbrev grown : ℕ → ℕ → ℕ → ℕ
+grown cursor size bytes = if nat_le (cursor + bytes) size then size else max (cursor + bytes) (size + size / 4)
+
+grown-enough : (cursor size bytes : ℕ) → cursor + bytes ≤ grown cursor size bytes
+grown-enough cursor size bytes =
+    elim (cases_Bool (nat_le (cursor + bytes) size)) [
+      | inl t_is ↦ rw t_is (leb-true (cursor + bytes) size t_is)
       | inr f_is ↦ rw f_is (omega arith)
     ]
 
-pub plan-room : (l : Layout) (first : ℕ) (places : List ℕ) (values : List Value) (bytes keys : ℕ) (r : Region) (texts : List (Option (List ℕ))) (size spare : ℕ) → AreDistinct places
-    → bytes ≡ all_bytes l.states (puts_from first (zip places values)) → keys ≡ all_keys l.states (puts_from first (zip places values))
-    → cursor_of r.extents ≡ cursor_of l.extents → size ≡ grown_size r bytes → keys ≤ spare
-    → HasRoom (record { layout = l; keys = texts; size = size; spare = spare }) (puts_from first (zip places values))
-plan-room l first places values bytes keys r texts size spare distinct bytes_is keys_is cursor size_is keys_fit =
-    let puts = puts_from first (zip places values) in
-    let apart = plan-apart first places values distinct in
-    let exact = bytes-all l puts apart in
-    let most = keys-all l puts apart in
-    let enough = grown-enough r bytes in
-    record { bytes = omega arith; keys = omega arith }
+-- what a plan made room for, of these puts
+pub record IsReserved (old new : StoreValue) (puts : List (ℕ × Value)) : Type 0 where
+  pub room : HasRoom new puts
+  pub size : new.room.size ≡ grown_size (region_of old) (bytes_needed old.contents.layout puts)
+  pub spare : keys_most old.contents.slots puts ≤ old.room.spare → new.room.spare ≡ old.room.spare
+
+pub reserved : (old new : StoreValue) (r : Region) (puts : List (ℕ × Value)) (bytes keys : ℕ)
+    → (bytes_needed old.contents.layout puts ≡ bytes_most old.contents.slots puts) × (keys_needed old.contents.layout puts ≤ keys_most old.contents.slots puts)
+    → bytes ≡ bytes_most old.contents.slots puts → keys ≡ keys_most old.contents.slots puts → new.contents ≡ old.contents
+    → cursor_of r.extents ≡ cursor_of old.contents.layout.extents → r.size ≡ old.room.size → new.room.size ≡ grown_size r bytes
+    → keys ≤ new.room.spare → (keys ≤ old.room.spare → new.room.spare ≡ old.room.spare) → IsReserved old new puts
+reserved old new r puts bytes keys told bytes_is keys_is same cursor size_was size_is fits stays =
+    let exact = bytes_is ∙ sym told.0 in
+    let size : new.room.size ≡ grown_size (region_of old) (bytes_needed old.contents.layout puts) =
+    size_is ∙ ap (λ n. grown n r.size bytes) cursor ∙ ap (λ n. grown (cursor_of old.contents.layout.extents) n bytes) size_was ∙ ap (grown (cursor_of old.contents.layout.extents) old.room.size) exact in
+    let enough = grown-enough (cursor_of old.contents.layout.extents) old.room.size (bytes_needed old.contents.layout puts) in
+    let most = told.1 in
+    let room : HasRoom (record { contents = old.contents; room = new.room }) puts = record { bytes = omega arith; keys = omega arith } in
+    record {
+      room = subst (λ c. HasRoom (record { contents = c; room = new.room }) puts) (sym same) room;
+      size = size;
+      spare = λ h. stays (omega arith);
+    }

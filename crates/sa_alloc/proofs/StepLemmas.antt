@@ -28,25 +28,17 @@ pub record Stock (es : List Extent) (ks : List (Option (List ℕ))) (old : Slot)
 
 -- a slot that names neither an extent nor a key
 abbrev pub IsPlain : Slot → Type 0
-IsPlain Fresh = Unit {0}
-IsPlain (Inline bytes) = Unit {0}
 IsPlain (InArena at size long) = ⊥
 IsPlain (Outside key size) = ⊥
-IsPlain Missing = Unit {0}
+IsPlain other = Unit {0}
 
 pub plain-at_key : (s : Slot) (key : ℕ) → IsPlain s → one_if (is_at_key key s) ≡ 0
-plain-at_key Fresh key p = refl
-plain-at_key (Inline bytes) key p = refl
-plain-at_key (InArena at size long) key p = absurd p
 plain-at_key (Outside other size) key p = absurd p
-plain-at_key Missing key p = refl
+plain-at_key s key p = refl
 
 pub plain-outside : (s : Slot) → IsPlain s → one_if (is_outside s) ≡ 0
-plain-outside Fresh p = refl
-plain-outside (Inline bytes) p = refl
-plain-outside (InArena at size long) p = absurd p
 plain-outside (Outside other size) p = absurd p
-plain-outside Missing p = refl
+plain-outside s p = refl
 
 -- what a slot without an extent and without a key leaves in the layout, for a value that fits into a slot
 pub record Replaces (b : Brought) (new : Slot) : Type 0 where
@@ -69,11 +61,8 @@ missing-replaces = record {
     by_state ds s = refl
 
     others : (ds : List Extent) (s : State) → ((k : ℕ) → s ≢ layouts.In k) → extents_after ds s Nothing ≡ ds
-    others ds layouts.Fresh ne = refl
-    others ds (layouts.Inline t) ne = refl
     others ds (layouts.In k) ne = absurd (ne k refl)
-    others ds (layouts.Out t) ne = refl
-    others ds layouts.Miss ne = refl
+    others ds s ne = refl
 
 pub inline-replaces : (text : List ℕ) → IsSpelled text → text_size text < 16 → Replaces (Short text) (Inline (encode_utf8_all text))
 inline-replaces text spelled short = record {
@@ -88,18 +77,12 @@ inline-replaces text spelled short = record {
     by_state ds s = refl
 
     others : (ds : List Extent) (s : State) → ((k : ℕ) → s ≢ layouts.In k) → extents_after ds s (Short text) ≡ ds
-    others ds layouts.Fresh ne = refl
-    others ds (layouts.Inline t) ne = refl
     others ds (layouts.In k) ne = absurd (ne k refl)
-    others ds (layouts.Out t) ne = refl
-    others ds layouts.Miss ne = refl
+    others ds s ne = refl
 
 pub plain-not_in : (es : List Extent) (ks : List (Option (List ℕ))) (s : Slot) → IsPlain s → (k : ℕ) → state_of es ks s ≢ layouts.In k
-plain-not_in es ks Fresh p k = λ e. cc
-plain-not_in es ks (Inline bytes) p k = λ e. cc
 plain-not_in es ks (InArena at size long) p k = absurd p
-plain-not_in es ks (Outside key size) p k = absurd p
-plain-not_in es ks Missing p k = λ e. cc
+plain-not_in es ks s p k = λ e. cc
 
 none_live : (es : List Extent) → is_live es (length es) ≡ true → ⊥
 none_live es live = let below = live-below es (length es) live in absurd (omega arith)
@@ -386,6 +369,6 @@ step-moves es ks old (value.Of text) es' ks' new stock spelled h =
       | inr f_is ↦
           let b_is : brought (value.Of text) ≡ Long text = rw f_is refl in
           let w = subst (λ b. Steps es ks (form_of old) b es' ks' new) b_is h in
-          let outer : IsOuter (encode_utf8_all text) = record { utf8 = spelled.utf8; least = ltb-false (text_size text) 16 f_is; most = spelled.most } in
+          let outer : IsOuter (encode_utf8_all text) = record { utf8 = spelled.utf8; size = (ltb-false (text_size text) 16 f_is, spelled.most) } in
           subst (λ b. Moves es ks old b es' ks' new) (sym b_is) (taken-moves es ks old text es' ks' new stock spelled outer w)
     ]

@@ -7,15 +7,15 @@ use Rattle.std.proofs.lemmas.List.{map-set, length-map}
 use Rattle.std.proofs.Math.ListN.{get_or-map}
 use Rattle.sa_text.specs.declared.value.Value.{Value}
 use Rattle.sa_text.specs.Texts.{text_size}
-use Rattle.sa_entry.specs.Slots.{Slot, Fresh, Inline, InArena, Outside, Missing}
+use Rattle.sa_entry.specs.Slots.{Slot, Fresh, InArena, Outside}
 use Rattle.sa_arena.specs.Extents.{Extent, extent_at, is_live, number_at, with_text, trimmed, front_of, has_text, extent_for}
 use Rattle.sa_arena.proofs.ExtentLemmas.{live-below, trimmed-extent_at, number_at-append, number_at-with_text, number_at-trimmed, extent_at-append, extent_at-with_text_other}
 use Rattle.sa_outside.specs.Keyed.{bytes_at, is_used, used_count, Changes}
 use Rattle.sa_alloc.specs.Layouts as layouts
-use Rattle.sa_alloc.specs.Layouts.{Layout, State, Brought, Nothing, Short, Long, brought, extents_after, state_after, state_at, put, IsSound, is_in, one_if, new_extent, fits_in, extent_text}
+use Rattle.sa_alloc.specs.Layouts.{Layout, State, Brought, Nothing, Short, Long, brought, extents_after, state_after, state_at, put_within, put, IsSound, is_in, one_if, new_extent, fits_in, extent_text}
 use Rattle.sa_alloc.specs.Ties.{state_of, decoded, layout_from, IsOuter, HoldsText, NamesExtent, NamesBytes, Fits, slot_at, is_at_key, is_outside, IsTied, text_under}
 use Rattle.sa_alloc.specs.Steps.{IsSpelled, killed}
-use Rattle.sa_alloc.proofs.LayoutLemmas.{counts_two, count-set, map-set_but, AllLive, all_live-push, all_live-with_text, all_live-with_none, all_live-trimmed, put-sound}
+use Rattle.sa_alloc.proofs.LayoutLemmas.{counts_two, count-set, map-set_but, AllLive, all_live-push, all_live-with_text, all_live-with_none, all_live-trimmed, put-within, within-sound}
 
 -- extents with code points in place of bytes
 
@@ -167,16 +167,11 @@ pub record Stays (es es' : List Extent) (ks ks' : List (Option (List ℕ))) (s :
   pub fits : Fits es' ks' s
 
 abbrev pub IsAway : List Extent → ℕ → ℕ → Slot → Type 0
-IsAway es number key Fresh = Unit {0}
-IsAway es number key (Inline bytes) = Unit {0}
 IsAway es number key (InArena at size long) = number_at es at ≢ number
 IsAway es number key (Outside other size) = other ≢ key
-IsAway es number key Missing = Unit {0}
+IsAway es number key s = Unit {0}
 
 pub away-stays : (es es' : List Extent) (ks ks' : List (Option (List ℕ))) (number key : ℕ) (s : Slot) → NearExtents es es' number → ((other : ℕ) → other ≢ key → bytes_at ks' other ≡ bytes_at ks other) → Fits es ks s → IsAway es number key s → Stays es es' ks ks' s
-away-stays es es' ks ks' number key Fresh near apart fits away = record { state = refl; fits = tt }
-away-stays es es' ks ks' number key (Inline bytes) near apart fits away = record { state = refl; fits = fits }
-away-stays es es' ks ks' number key Missing near apart fits away = record { state = refl; fits = tt }
 away-stays es es' ks ks' number key (InArena at size long) near apart fits away =
     let n = near.numbers at fits.live away in
     let e = ap (extent_at es') n ∙ near.extents (number_at es at) fits.live away in
@@ -184,6 +179,7 @@ away-stays es es' ks ks' number key (InArena at size long) near apart fits away 
 away-stays es es' ks ks' number key (Outside other size) near apart fits away =
     let b = apart other away in
     record { state = ap (λ x. layouts.Out (chars (unwrap_or x []))) b; fits = subst (λ x. NamesBytes x size) (sym b) fits }
+away-stays es es' ks ks' number key s near apart fits away = record { state = refl; fits = fits }
 
 -- two entries name no extent and no key in common
 pub is_away : (lengths : List ℕ) (es : List Extent) (ks : List (Option (List ℕ))) (ss : List Slot) (i j number key : ℕ) → IsTied lengths es ks ss → i < length ss → j < length ss → j ≢ i
@@ -191,9 +187,6 @@ pub is_away : (lengths : List ℕ) (es : List Extent) (ks : List (Option (List �
 is_away lengths es ks ss i j number key tied hi hj ne named at_key = by_slot (slot_at ss j) refl (tied.fits j hj)
   where
     by_slot : (s : Slot) → slot_at ss j ≡ s → Fits es ks s → IsAway es number key s
-    by_slot Fresh e fits = tt
-    by_slot (Inline bytes) e fits = tt
-    by_slot Missing e fits = tt
     by_slot (InArena at size long) e fits = λ same.
         let live : is_live es number ≡ true = ap (is_live es) (sym same) ∙ fits.live in
         let states = map (state_of es ks) ss in
@@ -212,6 +205,7 @@ is_away lengths es ks ss i j number key tied hi hj ne named at_key = by_slot (sl
         let count = tied.keyed key in
         let most = one_if-most (is_used ks key) in
         absurd (omega arith)
+    by_slot s e fits = tt
 
 pub record PutsOne (lengths : List ℕ) (es : List Extent) (ks : List (Option (List ℕ))) (ss : List Slot) (i : ℕ) (v : Value) (es' : List Extent) (ks' : List (Option (List ℕ))) (new : Slot) : Type 0 where
   pub layout : layout_from lengths es' ks' (set ss i new) ≡ put (layout_from lengths es ks ss) i v
@@ -230,15 +224,15 @@ moves-put lengths es ks ss i v es' ks' new tied h moves =
     let states : map (state_of es' ks') (set ss i new) ≡ set l.states i (state_after l.extents (state_at l.states i) (brought v)) =
     map-set_but (state_of es ks) (state_of es' ks') ss i new Fresh (λ j hj ne. (stays j hj ne).state)
     ∙ ap (set l.states i) (moves.state ∙ ap (λ s. state_after l.extents s (brought v)) (sym old_is)) in
-    let layout : layout_from lengths es' ks' (set ss i new) ≡ put l i v =
+    let len : length (map (state_of es ks) ss) ≡ length ss = length-map ss (state_of es ks) in
+    let layout : layout_from lengths es' ks' (set ss i new) ≡ put_within l i v =
     ap (λ xs. let x : Layout = record { lengths = lengths; extents = xs; states = map (state_of es' ks') (set ss i new) } in x) extents
     ∙ ap (λ xs. let x : Layout = record { lengths = lengths; extents = trimmed (extents_after l.extents (state_at l.states i) (brought v)); states = xs } in x) states in
-    let len : length (map (state_of es ks) ss) ≡ length ss = length-map ss (state_of es ks) in
     let at_i : slot_at (set ss i new) i ≡ new = get_or-set_same ss i new Fresh h in
     record {
-      layout = layout;
+      layout = layout ∙ sym (put-within l i v (omega arith));
       tied = record {
-        sound = subst IsSound (sym layout) (put-sound l i v tied.sound (omega arith));
+        sound = subst IsSound (sym layout) (within-sound l i v tied.sound (omega arith));
         keyed = λ key.
             let set_is = count-set (is_at_key key) ss i new Fresh h in
             let before = tied.keyed key in

@@ -43,7 +43,7 @@ pub data Brought : Type 0 where
 
 abbrev pub brought : Value → Brought
 brought value.Missing = Nothing
-brought (value.Of text) = if nat_lt (text_size text) 16 then Short text else Long text
+brought (value.Of text) = if nat_lt (text_size text) slot.least_outer then Short text else Long text
 
 -- the text fits into the extent of a number
 abbrev pub fits_in : List Extent → ℕ → List ℕ → Bool
@@ -56,14 +56,9 @@ new_extent text = record { capacity = text_size text; text = Some text }
 -- The extents after a put, by the old state of its entry and what it brings: a fresh entry's long text is appended, a long text that fits takes the place of its entry's text, and the extent of an entry that leaves it dies.
 abbrev pub extents_after : List Extent → State → Brought → List Extent
 extents_after extents Fresh (Long text) = extents ++ new_extent text ∷ []
-extents_after extents (In k) Nothing = with_text extents k None
-extents_after extents (In k) (Short text) = with_text extents k None
 extents_after extents (In k) (Long text) = if fits_in extents k text then with_text extents k (Some text) else with_text extents k None
-extents_after extents Fresh Nothing = extents
-extents_after extents Fresh (Short text) = extents
-extents_after extents (Inline old) new = extents
-extents_after extents (Out old) new = extents
-extents_after extents Miss new = extents
+extents_after extents (In k) new = with_text extents k None
+extents_after extents old new = extents
 
 -- the state of the entry after it
 abbrev pub state_after : List Extent → State → Brought → State
@@ -71,17 +66,19 @@ state_after extents old Nothing = Miss
 state_after extents old (Short text) = Inline text
 state_after extents Fresh (Long text) = In (length extents)
 state_after extents (In k) (Long text) = if fits_in extents k text then In k else Out text
-state_after extents (Inline old) (Long text) = Out text
-state_after extents (Out old) (Long text) = Out text
-state_after extents Miss (Long text) = Out text
+state_after extents old (Long text) = Out text
 
--- The put of a value into an entry, in its two parts: the first changes the extents by the table, the second removes the dead ones at the end.
-abbrev pub put : Layout → ℕ → Value → Layout
-put l entry v = record {
+-- the put of a value into an entry that exists, in its two parts: the first changes the extents by the table, the second removes the dead ones at the end
+abbrev pub put_within : Layout → ℕ → Value → Layout
+put_within l entry v = record {
   lengths = l.lengths;
   extents = trimmed (extents_after l.extents (state_at l.states entry) (brought v));
   states = slice_set l.states entry (state_after l.extents (state_at l.states entry) (brought v));
 }
+
+-- The put of a value into an entry. Where there is no such entry nothing changes.
+abbrev pub put : Layout → ℕ → Value → Layout
+put l entry v = if nat_lt entry (length l.states) then put_within l entry v else l
 
 -- puts one after another, each of an entry's number and a value
 abbrev pub put_all : Layout → List (ℕ × Value) → Layout
@@ -112,18 +109,12 @@ values_of l = map (value_in l.extents) l.states
 
 -- the entry names the extent of a number
 abbrev pub is_in : ℕ → State → Bool
-is_in k Fresh = false
-is_in k (Inline text) = false
 is_in k (In j) = j == k
-is_in k (Out text) = false
-is_in k Miss = false
+is_in k other = false
 
 abbrev pub is_out : State → Bool
-is_out Fresh = false
-is_out (Inline text) = false
-is_out (In k) = false
 is_out (Out text) = true
-is_out Miss = false
+is_out other = false
 
 abbrev pub one_if : Bool → ℕ
 one_if b = if b then 1 else 0
@@ -150,7 +141,7 @@ arena_image l = image_of (map encoded l.extents)
 abbrev pub slot_of : List Extent → State → Slot
 slot_of extents Fresh = slot.Fresh
 slot_of extents (Inline text) = slot.Inline (encode_utf8_all text)
-slot_of extents (In k) = slot.InArena (offset_of extents k) (text_size (text_in extents k)) (nat_lt 255 (extent_at extents k).capacity)
+slot_of extents (In k) = slot.InArena (offset_of extents k) (text_size (text_in extents k)) (nat_lt slot.most_short (extent_at extents k).capacity)
 slot_of extents (Out text) = slot.Outside 0 (text_size text)
 slot_of extents Miss = slot.Missing
 

@@ -4,9 +4,8 @@ pub use Rattle.sa_entry.specs.Slots
 pub mod Laws
 pub mod Layouts
 pub mod Needs
-pub mod Planned
-pub mod Plans
+pub mod PlanValues
 pub mod Steps
-pub mod Stored
+pub mod StoreValues
 pub mod Stores
 pub mod Ties

@@ -1,7 +1,7 @@
 -- How the parts of a store make its layout, and what every store keeps. Source: this project.
 use Rattle.std.specs.Prelude.{◌≡◌, ℕ, ◌<◌, ◌≤◌, ◌==◌, nat_lt, Bool, true, false, List, [], length, map, sum, count_by, slice_index_or, Option, option_map, is_some, unwrap_or, IsUtf8}
 use Rattle.std.specs.Str.{chars}
-use Rattle.sa_entry.specs.Slots.{Slot, Fresh, Inline, InArena, Outside, Missing}
+use Rattle.sa_entry.specs.Slots.{Slot, Fresh, Inline, InArena, Outside, Missing, least_outer, most_short, IsOuterSize}
 use Rattle.sa_arena.specs.Extents.{Extent, extent_at, has_text, is_live, number_at, trimmed}
 use Rattle.sa_outside.specs.Keyed.{bytes_at, is_used, used_count}
 use Rattle.sa_alloc.specs.Layouts as layouts
@@ -30,8 +30,7 @@ layout_from lengths extents texts slots = record { lengths = lengths; extents = 
 -- bytes that stand outside a slot
 pub record IsOuter (bytes : List ℕ) : Type 0 where
   pub utf8 : IsUtf8 bytes
-  pub least : 16 ≤ length bytes
-  pub most : length bytes ≤ 65536
+  pub size : IsOuterSize (length bytes)
 
 -- an extent has the bytes of a text, which fit into it
 pub record HoldsText (e : Extent) : Type 0 where
@@ -42,7 +41,7 @@ pub record HoldsText (e : Extent) : Type 0 where
 pub record NamesExtent (e : Extent) (size : ℕ) (long : Bool) : Type 0 where
   pub live : has_text e ≡ true
   pub sized : length (extent_text e) ≡ size
-  pub prefix : nat_lt 255 e.capacity ≡ long
+  pub prefix : nat_lt most_short e.capacity ≡ long
 
 -- a slot that names a key has the size of the bytes there
 pub record NamesBytes (bytes : Option (List ℕ)) (size : ℕ) : Type 0 where
@@ -51,11 +50,10 @@ pub record NamesBytes (bytes : Option (List ℕ)) (size : ℕ) : Type 0 where
 
 -- what a slot says is so
 abbrev pub Fits : List Extent → List (Option (List ℕ)) → Slot → Type 0
-Fits extents texts Fresh = Unit {0}
-Fits extents texts (Inline bytes) = IsUtf8 bytes × (length bytes < 16)
+Fits extents texts (Inline bytes) = IsUtf8 bytes × (length bytes < least_outer)
 Fits extents texts (InArena at size long) = NamesExtent (extent_at extents (number_at extents at)) size long
 Fits extents texts (Outside key size) = NamesBytes (bytes_at texts key) size
-Fits extents texts Missing = Unit {0}
+Fits extents texts other = Unit {0}
 
 -- the slot of an entry; fresh where there is none
 abbrev pub slot_at : List Slot → ℕ → Slot
@@ -63,18 +61,12 @@ slot_at slots entry = slice_index_or slots entry Fresh
 
 -- the slot names this key
 abbrev pub is_at_key : ℕ → Slot → Bool
-is_at_key key Fresh = false
-is_at_key key (Inline bytes) = false
-is_at_key key (InArena at size long) = false
 is_at_key key (Outside other size) = other == key
-is_at_key key Missing = false
+is_at_key key other = false
 
 abbrev pub is_outside : Slot → Bool
-is_outside Fresh = false
-is_outside (Inline bytes) = false
-is_outside (InArena at size long) = false
 is_outside (Outside key size) = true
-is_outside Missing = false
+is_outside other = false
 
 -- Every store keeps: each live extent is named by exactly one entry, and each key in use too; what a slot says is so; texts are UTF-8 and fit where they lie; the last extent is live; and there are as many slots as the arrays have entries.
 pub record IsTied (lengths : List ℕ) (extents : List Extent) (texts : List (Option (List ℕ))) (slots : List Slot) : Type 0 where
@@ -104,16 +96,10 @@ pub record IsStore (lengths starts : List ℕ) (extents : List Extent) (texts : 
 
 -- a slot with 0 in place of a key
 abbrev pub without_key : Slot → Slot
-without_key Fresh = Fresh
-without_key (Inline bytes) = Inline bytes
-without_key (InArena at size long) = InArena at size long
 without_key (Outside key size) = Outside 0 size
-without_key Missing = Missing
+without_key other = other
 
 -- a slot that names a key has a size that stands outside a slot
 abbrev pub IsSized : Slot → Type 0
-IsSized Fresh = Unit {0}
-IsSized (Inline bytes) = Unit {0}
-IsSized (InArena at size long) = Unit {0}
-IsSized (Outside key size) = (16 ≤ size) × (size ≤ 65536)
-IsSized Missing = Unit {0}
+IsSized (Outside key size) = IsOuterSize size
+IsSized other = Unit {0}

@@ -18,7 +18,7 @@ mod seen;
 mod store;
 mod transition;
 
-pub use laws::{puts_keep_sound, puts_set_one_value};
+pub use laws::{puts_keep_shape, puts_keep_sound, puts_set_one_value};
 pub use plan::Plan;
 pub use seen::Seen;
 pub use store::Store;

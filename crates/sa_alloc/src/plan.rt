@@ -12,9 +12,9 @@ pub struct Plan {
 }
 
 impl Model for Plan {
-    ghost use Rattle.sa_alloc.specs.Planned.{Planned};
+    ghost use Rattle.sa_alloc.specs.PlanValues.{PlanValue};
 
-    ghost Value = { Planned };
+    ghost Value = { PlanValue };
 
     ghost view = { λ p. record { array = p.array; puts = p.puts.items } };
 }

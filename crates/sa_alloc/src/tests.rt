@@ -2,7 +2,7 @@ ghost use Rattle.std.specs.Prelude.{◌≡◌, ◌<◌, length, slice_index};
 
 use crate::{Seen, Store};
 use sa_base::Stats;
-use sa_text::{Text, Value};
+use sa_text::{stretched_len, value_weight, Text, Value};
 use std::alloc::Global;
 use std::process::Abort;
 use std::test::Fail;
@@ -27,29 +27,32 @@ fn stats(cursor: u64, live: u64, dead: u64, outside: u64) -> Stats {
 
 /// The length of an array, which the store has.
 fn length_of(rt: &impl Abort, store: &Store, array: u32) -> u32
-    ensures known { array < length store.now.layout.lengths }
-    ensures length { result ≡ slice_index store.now.layout.lengths array }
+    ensures known { array < length store.now.contents.layout.lengths }
+    ensures length { result ≡ slice_index store.now.contents.layout.lengths array }
 {
     let lengths = store.lengths();
     assert!(rt; (array as usize) < lengths.len());
     lengths[array as usize]
 }
 
-/// Plans values for an array's places from one on, and writes them.
+/// Plans values for so many of an array's places from one on, one value for all or one for each, and
+/// writes them.
 fn put(
     rt: &impl Abort,
     alloc: Global,
     store: &mut Store,
     array: u32,
     first: u32,
+    count: u32,
     values: &[Value],
 ) -> Result<(), Fail> {
     let length = length_of(rt, store, array);
-    assert!(rt; first as usize + values.len() <= length as usize);
+    assert!(rt; first as usize + count as usize <= length as usize);
     let mut places = Vec::new(alloc);
-    for k in 0..values.len() {
-        places.push(first + k as u32)?;
+    for k in 0..count {
+        places.push(first + k)?;
     }
+    assert_eq!(rt; stretched_len(places.len(), values), places.len());
     let plan = store.plan(alloc, array, places.as_slice(), values)?;
     store.write(plan);
     Ok(())
@@ -68,7 +71,15 @@ fn set(
     for text in texts {
         values.push(Value::Of(Text::from_bytes(alloc, text)?))?;
     }
-    put(rt, alloc, store, array, first, values.as_slice())
+    put(
+        rt,
+        alloc,
+        store,
+        array,
+        first,
+        texts.len() as u32,
+        values.as_slice(),
+    )
 }
 
 /// An array has these slots.
@@ -249,7 +260,7 @@ fn a_write_leaves_the_other_array(rt: HostRuntime) -> Result<(), Fail> {
     has_values(&rt, &store, 1, &[Seen::Bytes(TEXT_24)]);
     set(&rt, alloc, &mut store, 1, 0, &[TEXT_40])?;
     has_values(&rt, &store, 1, &[Seen::Bytes(TEXT_40)]);
-    put(&rt, alloc, &mut store, 1, 0, &[Value::Missing])?;
+    put(&rt, alloc, &mut store, 1, 0, 1, &[Value::Missing])?;
     has_values(&rt, &store, 1, &[Seen::Missing]);
     has_images(&rt, &store, 1, &[*b"\0\0\0\0\0\0\0\0\0\0\0\0\0\0\0\xc0"]);
     has_values(&rt, &store, 0, &[empty, Seen::Bytes(TEXT_16)]);
@@ -260,5 +271,41 @@ fn a_write_leaves_the_other_array(rt: HostRuntime) -> Result<(), Fail> {
         &[[0; 16], *b"\x01\0\0\0\0\0\0\0\x10\0\0\0\0\0\0\x40"],
     );
     assert_eq!(rt; store.lengths(), [2, 1].as_slice());
+    Ok(())
+}
+
+#[test]
+fn one_value_goes_to_all_places(rt: HostRuntime) -> Result<(), Fail> {
+    let alloc = rt.alloc();
+    let mut store = Store::new(alloc, &[3])?;
+    let value = Value::Of(Text::from_bytes(alloc, TEXT_16)?);
+    put(&rt, alloc, &mut store, 0, 0, 3, &[value])?;
+    let seen = Seen::Bytes(TEXT_16);
+    has_values(&rt, &store, 0, &[seen, seen, seen]);
+    assert_eq!(rt; store.stats(), stats(51, 51, 0, 0));
+    Ok(())
+}
+
+#[test]
+fn values_and_weights_are_those_of_the_entries(rt: HostRuntime) -> Result<(), Fail> {
+    let alloc = rt.alloc();
+    let mut store = Store::new(alloc, &[1, 5])?;
+    // a text in the arena, one inside, one outside, a missing value, and a fresh entry
+    set(&rt, alloc, &mut store, 1, 0, &[TEXT_20, b"abc", b"x"])?;
+    set(&rt, alloc, &mut store, 1, 2, &[TEXT_40])?;
+    put(&rt, alloc, &mut store, 1, 3, 1, &[Value::Missing])?;
+    let length = length_of(&rt, &store, 1);
+    let values = store.values(alloc, 1)?;
+    assert_eq!(rt; values.len(), length as usize);
+    for place in 0..length {
+        let value = &values[place as usize];
+        let seen = match value {
+            Value::Missing => Seen::Missing,
+            Value::Of(text) => Seen::Bytes(text.as_bytes()),
+        };
+        assert_eq!(rt; store.load(1, place), seen, "at {place}");
+        assert_eq!(rt; store.value_weight(1, place), value_weight(value), "at {place}");
+    }
+    assert_eq!(rt; store.weight(1), 5 * 16 + 20 + 3 + 40);
     Ok(())
 }

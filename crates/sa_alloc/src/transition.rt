@@ -1,9 +1,12 @@
 ghost use Rattle.std.specs.Prelude.{◌≡◌, ◌+◌, ◌≤◌, length};
+ghost use Rattle.sa_entry.specs.Slots.{form_of, IsOuterSize};
 ghost use Rattle.sa_arena.specs.Extents.{cursor_of};
 ghost use Rattle.sa_alloc.specs.Layouts.{brought};
-ghost use Rattle.sa_alloc.specs.Steps.{Spelled, Stands, Releases, Takes, Steps, long_bytes, long_keys, form_bytes, form_keys};
+ghost use Rattle.sa_alloc.specs.Needs.{bytes_appended, keys_taken, outer_bytes, outer_keys};
+ghost use Rattle.sa_alloc.specs.Steps.{Spelled, Stands, Releases, Takes, Steps, state_by};
 
 use sa_arena::Arena;
+use sa_bytes::SharedBytes;
 use sa_entry::{Entry, Form};
 use sa_outside::Outside;
 use sa_text::Value;
@@ -14,35 +17,38 @@ const MOST_INLINE: usize = 15;
 /// The greatest capacity that one byte holds.
 const MOST_SHORT: u64 = 255;
 
-/// Puts a value in the place of what an entry of this form holds, and answers the entry's new slot.
-/// It takes no memory, since a plan took it.
-pub fn step(arena: &mut Arena, outside: &mut Outside, old: Form, value: Value) -> Entry
-    requires stands { Stands arena.old.extents outside.old.texts old }
-    requires bytes { cursor_of arena.old.extents + form_bytes old (brought value) ≤ arena.old.size }
-    requires keys { form_keys arena.old.extents old (brought value) ≤ outside.old.spare }
-    ensures steps { Steps arena.old.extents outside.old.texts old (brought value) arena.new.extents outside.new.texts result }
+/// Puts a value in the place of what a slot says, and makes the slot say it. It takes no memory, since
+/// a plan took it.
+#[inline]
+pub fn step(arena: &mut Arena, outside: &mut Outside, slot: &mut Entry, value: Value)
+    requires stands { Stands arena.old.extents outside.old.texts (form_of slot.old) }
+    requires bytes { cursor_of arena.old.extents + bytes_appended (state_by arena.old.extents (form_of slot.old)) (brought value) ≤ arena.old.size }
+    requires keys { keys_taken arena.old.extents (state_by arena.old.extents (form_of slot.old)) (brought value) ≤ outside.old.spare }
+    ensures steps { Steps arena.old.extents outside.old.texts (form_of slot.old) (brought value) arena.new.extents outside.new.texts slot.new }
     ensures spelled { Spelled value }
     ensures size { arena.new.size ≡ arena.old.size }
-    ensures spare { outside.old.spare ≤ outside.new.spare + form_keys arena.old.extents old (brought value) }
+    ensures spare { outside.old.spare ≤ outside.new.spare + keys_taken arena.old.extents (state_by arena.old.extents (form_of slot.old)) (brought value) }
 {
+    let old = slot.form();
     match value {
         Value::Missing => {
             release(arena, outside, old);
-            Entry::missing()
+            *slot = Entry::missing();
         }
         Value::Of(text) => {
             let bytes = text.into_bytes();
             if bytes.len() <= MOST_INLINE {
                 release(arena, outside, old);
-                Entry::inline(bytes.as_slice())
+                slot.set_inline(bytes.as_slice());
             } else {
-                take_in(arena, outside, old, bytes)
+                *slot = take_in(arena, outside, old, bytes);
             }
         }
     }
 }
 
 /// Gives up what an entry of this form holds: its extent dies, or its key is freed.
+#[inline]
 fn release(arena: &mut Arena, outside: &mut Outside, old: Form)
     requires { Stands arena.old.extents outside.old.texts old }
     ensures releases { Releases arena.old.extents outside.old.texts old arena.new.extents outside.new.texts }
@@ -62,14 +68,14 @@ fn release(arena: &mut Arena, outside: &mut Outside, old: Form)
 
 /// Takes in a text that does not fit into a slot: into a new extent for a fresh entry, into the
 /// entry's own extent where it fits there, else outside.
-fn take_in(arena: &mut Arena, outside: &mut Outside, old: Form, bytes: Vec<u8>) -> Entry
+fn take_in(arena: &mut Arena, outside: &mut Outside, old: Form, bytes: SharedBytes) -> Entry
     requires stands { Stands arena.old.extents outside.old.texts old }
-    requires size { (16 ≤ length bytes.items) × (length bytes.items ≤ 65536) }
-    requires bytes { cursor_of arena.old.extents + long_bytes old (length bytes.items) ≤ arena.old.size }
-    requires keys { long_keys arena.old.extents old (length bytes.items) ≤ outside.old.spare }
-    ensures takes { Takes arena.old.extents outside.old.texts old bytes.items arena.new.extents outside.new.texts result }
+    requires size { IsOuterSize (length bytes) }
+    requires bytes { cursor_of arena.old.extents + outer_bytes (state_by arena.old.extents old) (length bytes) ≤ arena.old.size }
+    requires keys { outer_keys arena.old.extents (state_by arena.old.extents old) (length bytes) ≤ outside.old.spare }
+    ensures takes { Takes arena.old.extents outside.old.texts old bytes arena.new.extents outside.new.texts result }
     ensures size { arena.new.size ≡ arena.old.size }
-    ensures spare { outside.old.spare ≤ outside.new.spare + long_keys arena.old.extents old (length bytes.items) }
+    ensures spare { outside.old.spare ≤ outside.new.spare + outer_keys arena.old.extents (state_by arena.old.extents old) (length bytes) }
 {
     let size = bytes.len() as u64;
     match old {

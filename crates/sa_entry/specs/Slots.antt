@@ -73,6 +73,14 @@ HasFormSizes (form.Arena at size long) = IsOuterSize size × (long ≡ false →
 HasFormSizes (form.Outside key size) = IsOuterSize size
 HasFormSizes form.Missing = Unit {0}
 
+-- how many bytes the text of a slot has: none where the slot is fresh or missing
+abbrev pub slot_size : Slot → ℕ
+slot_size (Inline bytes) = length bytes
+slot_size (InArena at size long) = size
+slot_size (Outside key size) = size
+slot_size Fresh = 0
+slot_size Missing = 0
+
 -- the text stands inside the slot
 abbrev pub is_inside : Slot → Bool
 is_inside Fresh = true

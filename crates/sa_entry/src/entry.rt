@@ -1,5 +1,5 @@
 ghost use Rattle.std.specs.Prelude.{◌≡◌, ◌≤◌, ◌<◌, ◌++◌, ◌∷◌, [], length, true, false, Option, Some, IfSome, IfNone, IsTrue, ◌↔◌};
-ghost use Rattle.sa_entry.specs.Slots.{Slot, Fresh, Inline, InArena, Outside, Missing, IsSlot, spelling, form_of, HasFormSizes, is_inside, inside_bytes, word, size_bytes, least_outer, most_short, IsOuterSize, IsReading};
+ghost use Rattle.sa_entry.specs.Slots.{Slot, Fresh, Inline, InArena, Outside, Missing, IsSlot, spelling, form_of, HasFormSizes, is_inside, inside_bytes, slot_size, word, size_bytes, least_outer, most_outer, most_short, IsOuterSize, IsReading};
 ghost use Rattle.sa_entry.specs.Readings.{slot_of, first_word, size_in, IsSpelling};
 
 use crate::form::Form;
@@ -123,6 +123,21 @@ impl Entry {
         ensures sizes { HasFormSizes result }
     {
         form_in(&self.bytes)
+    }
+
+    /// How many bytes the slot's text has: 0 where it is fresh or missing. No byte of the text is read.
+    #[inline(always)]
+    pub fn size(&self) -> u64
+        ensures size { result ≡ slot_size self.now }
+        ensures most { result ≤ most_outer }
+    {
+        match self.form() {
+            Form::Fresh => 0,
+            Form::Inline { size } => size as u64,
+            Form::Arena { size, .. } => size,
+            Form::Outside { size, .. } => size,
+            Form::Missing => 0,
+        }
     }
 
     /// The bytes of the text inside the slot, at most 15: of an inline entry its text, of a fresh one

@@ -92,6 +92,8 @@ fn slots_are_spelled(rt: HostRuntime) {
         );
     }
     assert_eq!(rt; Entry::inline(b"abc").inline_bytes(), b"abc".as_slice());
+    assert_eq!(rt; Entry::inline(b"abc").size(), 3);
+    assert_eq!(rt; Entry::outside(7, 20).size(), 20);
     assert!(rt; Entry::fresh().inline_bytes().is_empty());
     for last in [Entry::missing(), Entry::outside(7, 20)] {
         let mut entry = last;

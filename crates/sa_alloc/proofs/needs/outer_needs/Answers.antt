@@ -1,6 +1,6 @@
 use Rattle.std.proofs.Common.{arith, rules}
 use Rattle.sa_arena.proofs.ExtentLemmas.{prefix_size-most}
-use Rattle.sa_alloc.proofs.needs.long_bytes.Goals as goal
+use Rattle.sa_alloc.proofs.needs.outer_needs.Goals as goal
 
 pub overflow_add-result : goal.overflow_add-result
 overflow_add-result c =

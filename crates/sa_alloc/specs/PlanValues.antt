@@ -3,6 +3,6 @@ use Rattle.std.specs.Prelude.{ℕ, List}
 use Rattle.sa_text.specs.declared.value.Value.{Value}
 
 -- a plan: an array, and the places in it with their values
-pub record Planned : Type 0 where
+pub record PlanValue : Type 0 where
   pub array : ℕ
   pub puts : List (ℕ × Value)
