@@ -6,3 +6,4 @@ pub mod WriteLemmas
 pub mod ReadLemmas
 pub mod OpeningLemmas
 pub mod PlanLemmas
+pub mod CopyLemmas

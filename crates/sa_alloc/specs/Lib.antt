@@ -1,6 +1,7 @@
 pub use Rattle.sa_arena.specs.Extents
 pub use Rattle.sa_arena.specs.Images
 pub use Rattle.sa_entry.specs.Slots
+pub mod Copies
 pub mod Laws
 pub mod Layouts
 pub mod Needs

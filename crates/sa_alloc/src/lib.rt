@@ -17,6 +17,7 @@ mod plan;
 mod seen;
 mod store;
 mod transition;
+mod values;
 
 pub use laws::{puts_keep_shape, puts_keep_sound, puts_set_one_value};
 pub use plan::Plan;

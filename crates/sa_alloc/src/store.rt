@@ -134,20 +134,6 @@ impl Store {
         self.seen((self.first(array) + place) as usize)
     }
 
-    /// The values of an array's entries, in order: each text is made once, from where it lies.
-    pub fn values(&self, alloc: Global, array: u32) -> Result<Vec<Value>, Memory>
-        requires { array < length self.now.contents.layout.lengths }
-        ensures { IfOk result (λ v. v.items ≡ array_values self.now.contents.layout array) }
-    {
-        let first = self.first(array);
-        let count = self.length(array);
-        let mut values = Vec::with_capacity(alloc, count as usize)?;
-        for place in 0..count {
-            values.push(self.value(alloc, (first + place) as usize)?)?;
-        }
-        Ok(values)
-    }
-
     /// What the value of an entry weighs. Its slot tells it, and no text is read.
     #[inline]
     pub fn value_weight(&self, array: u32, place: u32) -> u64
@@ -202,7 +188,7 @@ impl Store {
 
     /// The number of an array's first entry.
     #[inline]
-    fn first(&self, array: u32) -> u32
+    pub(crate) fn first(&self, array: u32) -> u32
         requires { array < length self.now.contents.layout.lengths }
         ensures first { result ≡ first_entry self.now.contents.layout.lengths array }
         ensures few { result + slice_index self.now.contents.layout.lengths array ≤ length self.now.contents.slots }
@@ -214,7 +200,7 @@ impl Store {
 
     /// How many entries an array has.
     #[inline]
-    fn length(&self, array: u32) -> u32
+    pub(crate) fn length(&self, array: u32) -> u32
         requires { array < length self.now.contents.layout.lengths }
         ensures { result ≡ slice_index self.now.contents.layout.lengths array }
     {
@@ -223,7 +209,7 @@ impl Store {
 
     /// The value of the entry of a number, lent.
     #[inline]
-    fn seen(&self, entry: usize) -> Seen<'_>
+    pub(crate) fn seen(&self, entry: usize) -> Seen<'_>
         requires { entry < length self.now.contents.slots }
         ensures { Shows result (value_at self.now.contents.layout entry) }
     {
@@ -237,18 +223,6 @@ impl Store {
                 None => unreachable!(),
             },
             Form::Missing => Seen::Missing,
-        }
-    }
-
-    /// The value of the entry of a number.
-    #[inline]
-    fn value(&self, alloc: Global, entry: usize) -> Result<Value, Memory>
-        requires { entry < length self.now.contents.slots }
-        ensures { IfOk result (λ v. v ≡ value_at self.now.contents.layout entry) }
-    {
-        match self.seen(entry) {
-            Seen::Missing => Ok(Value::Missing),
-            Seen::Bytes(bytes) => Ok(Value::Of(Text::from_utf8(alloc, bytes)?)),
         }
     }
 

@@ -1,6 +1,7 @@
 -- The first refusal among results of which none is forbidden: the weights alone decide.
 use Rattle.std.proofs.Common.{◌≡◌, ℕ, ◌+◌, ◌*◌, ◌<◌, ◌≤◌, true, false, ltb, List, [], ◌∷◌, length, drop, get_or, replicate, Option, Some, None, refl, sym, ap, ◌∙◌, arith, drop-cons, add-one}
 use Rattle.std.proofs.lemmas.Bool.{lt-ltb, le-ltb}
+use Rattle.std.proofs.lemmas.List.{drop_all}
 use Rattle.std.proofs.lemmas.List.Folds.{sum_by-replicate}
 use Rattle.std.proofs.lemmas.List.Sums.{sum_by-cons}
 use Rattle.sa_text.specs.Values.{value_weight, weight_of, stretched}
@@ -23,11 +24,15 @@ heavy-here weight k vs below heavy =
     let over = lt-ltb 1048576 (weight + value_weight (get_or vs k Missing)) heavy in
     rw (drop-cons vs k Missing below, over) refl
 
-pub light-here : (weight k : ℕ) (vs : List Value) → k < length vs → weight + value_weight (get_or vs k Missing) ≤ 1048576
-    → refused false weight k (drop k vs) ≡ refused false (weight + value_weight (get_or vs k Missing)) (k + 1) (drop (k + 1) vs)
-light-here weight k vs below light =
-    let fits = le-ltb 1048576 (weight + value_weight (get_or vs k Missing)) light in
-    rw (drop-cons vs k Missing below, fits, add-one) refl
+pub light-here : (weight k : ℕ) (vs : List Value) (one : ℕ) → k < length vs → one ≡ value_weight (get_or vs k Missing) → weight + one ≤ 1048576
+    → refused false (weight + one) (k + 1) (drop (k + 1) vs) ≡ refused false weight k (drop k vs)
+light-here weight k vs one below same light =
+    let fits = le-ltb 1048576 (weight + value_weight (get_or vs k Missing)) (omega arith) in
+    sym (rw (drop-cons vs k Missing below, fits, add-one, same) refl)
+
+-- behind the last one none is refused
+pub none-left : (weight k : ℕ) (vs : List Value) → length vs ≤ k → refused false weight k (drop k vs) ≡ None
+none-left weight k vs past = rw (drop_all k vs past) refl
 
 -- what values weigh once they are stretched
 pub weight-stretched : (count : ℕ) (v : Value) → weight_of (stretched count (v ∷ [])) ≡ count * weight_of (v ∷ [])

@@ -12,8 +12,8 @@ use Rattle.sa_text.specs.declared.value.Value.TheVariants.{Of}
 use Rattle.sa_alloc.specs.Layouts as layouts
 use Rattle.sa_alloc.specs.Layouts.{Layout, IsSound, opening_layout, first_entry, put, put_all, value_in, value_at}
 use Rattle.sa_alloc.specs.Stores.{puts_from}
-use Rattle.sa_alloc.proofs.LayoutLemmas.{put-sound, opening-sound, values-put}
-use Rattle.sa_alloc.proofs.ReadLemmas.{map-map}
+use Rattle.std.proofs.lemmas.Simd.{map-map}
+use Rattle.sa_alloc.proofs.LayoutLemmas.{put-sound, put-lengths, put-entries, opening-sound, values-put}
 use Rattle.sa_plain.specs.declared.items.Items.TheVariants.{Values}
 use Rattle.sa_script.specs.declared.call.View.{View}
 use Rattle.sa_script.specs.declared.decls.ArrayDecl.{ArrayDecl}
@@ -31,11 +31,11 @@ use Rattle.strarr.proofs.SlotLemmas.{slot_below, kept_at, at_home, home_below, n
 
 pub lengths-put_all : (l : Layout) (ps : List (ℕ × Value)) → (put_all l ps).lengths ≡ l.lengths
 lengths-put_all l [] = refl
-lengths-put_all l (p ∷ ps) = lengths-put_all (put l p.0 p.1) ps
+lengths-put_all l (p ∷ ps) = lengths-put_all (put l p.0 p.1) ps ∙ put-lengths l p.0 p.1
 
 pub count-put_all : (l : Layout) (ps : List (ℕ × Value)) → length (put_all l ps).states ≡ length l.states
 count-put_all l [] = refl
-count-put_all l (p ∷ ps) = count-put_all (put l p.0 p.1) ps ∙ length-set l.states p.0 _
+count-put_all l (p ∷ ps) = count-put_all (put l p.0 p.1) ps ∙ put-entries l p.0 p.1
 
 -- the puts of values into the entries from one on
 abbrev pub puts_on : ℕ → ℕ → List Value → List (ℕ × Value)
@@ -66,13 +66,13 @@ puts-on l first k [] sound within = record { sound = sound; values = sym (splice
 puts-on l first k (v ∷ vs) sound within =
     let here : first + k < length l.states = omega arith in
     let l1 = put l (first + k) v in
-    let same = length-set l.states (first + k) (layouts.state_after l.extents (layouts.state_at l.states (first + k)) (layouts.brought v)) in
-    let rest = puts-on l1 first (k + 1) vs (put-sound l (first + k) v sound here) (omega arith) in
+    let same = put-entries l (first + k) v in
+    let rest = puts-on l1 first (k + 1) vs (put-sound l (first + k) v sound) (omega arith) in
     let next : first + (k + 1) ≡ first + k + 1 = omega arith in
     let long = length-values l in
     let step : spliced (layouts.values_of l1) (first + (k + 1)) vs ≡ spliced (layouts.values_of l) (first + k) (v ∷ vs) =
     ap (λ n. spliced (layouts.values_of l1) n vs) next
-    ∙ ap (λ xs. spliced xs (first + k + 1) vs) (values-put l (first + k) v sound here)
+    ∙ ap (λ xs. spliced xs (first + k + 1) vs) (values-put l (first + k) v sound)
     ∙ splice-set (layouts.values_of l) (first + k) v vs (omega arith) in
     record { sound = rest.sound; values = rest.values ∙ step }
 
@@ -245,7 +245,7 @@ opening-goes d declared = record {
 }
   where
     strings-is : (h : ℕ) → map (λ n. replicate n (Of [])) (lengths_of d h) ≡ map (λ (a : ArrayDecl). replicate a.len (Of [])) (filter (is_at h) d.arrays)
-    strings-is h = map-map (λ (a : ArrayDecl). a.len) (λ n. replicate n (Of [])) (filter (is_at h) d.arrays)
+    strings-is h = map-map (λ n. replicate n (Of [])) (λ (a : ArrayDecl). a.len) (filter (is_at h) d.arrays)
 
     at : (h : ℕ) → world_of (opening_layouts d) h ≡ opening d h
     at h =

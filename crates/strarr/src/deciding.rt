@@ -1,4 +1,4 @@
-ghost use Rattle.std.specs.Prelude.{◌≡◌, ◌≤◌, ◌<◌, ◌^◌, length, Some};
+ghost use Rattle.std.specs.Prelude.{◌≡◌, ◌≤◌, ◌<◌, ◌*◌, ◌^◌, length, Some};
 ghost use Rattle.sa_text.specs.Values.{stretched, weight_of};
 ghost use Rattle.sa_script.specs.Effects.{refused, refusal_of, forbids};
 ghost use Rattle.sa_script.specs.Limits.{most_weight};
@@ -47,14 +47,23 @@ pub fn results_refusal(
     requires few { (count ≤ 8192) × (length (stretched count values.now) ≤ 8192) }
     ensures { result ≡ refused forbidden weight 0 (stretched count values.now) }
 {
-    let results = match values {
-        [_] => count as u64 * weight,
-        _ => weight,
-    };
-    if !forbidden && weight + results <= MOST_WEIGHT {
+    if !forbidden && weight + results_weight(weight, count, values) <= MOST_WEIGHT {
         return None;
     }
     first_refusal(forbidden, weight, count, values)
+}
+
+/// What values of this weight weigh once they are stretched to a count.
+fn results_weight(weight: u64, count: usize, values: &[Value]) -> u64
+    requires weight { weight ≡ weight_of values.now }
+    requires few { (count ≤ 8192) × (weight ≤ most_weight) }
+    ensures weight { result ≡ weight_of (stretched count values.now) }
+    ensures most { result ≤ 8192 * most_weight }
+{
+    match values {
+        [_] => count as u64 * weight,
+        _ => weight,
+    }
 }
 
 /// The first refusal among values that are stretched to a count: a missing value that is forbidden,

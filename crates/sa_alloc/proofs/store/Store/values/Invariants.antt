@@ -1,6 +1,0 @@
-use Rattle.std.proofs.Common.{◌≡◌, take, drop}
-use Rattle.sa_alloc.specs.Layouts.{values_of}
-use Rattle.sa_alloc.proofs.store.Store.values.Given as goal
-
-abbrev pub invariant-loop-place : goal.invariant-loop-place
-invariant-loop-place l = l.values.items ≡ take l.place (drop l.first (values_of l.self.contents.layout))
