@@ -1,7 +1,8 @@
-use crate::{Call, Kind, Op, Operand, Script, View, parse};
+use crate::{Call, Kind, Op, Operand, Script, ScriptFault, View, parse};
 use sa_descr::NaRule;
 use sa_plain::Items;
 use sa_text::Value;
+use std::alloc::Global;
 use std::test::Fail;
 
 /// A script of several descriptors, arrays and tasks.
@@ -24,6 +25,11 @@ show c
 end
 ";
 
+/// That script, parsed.
+fn parsed(alloc: Global) -> Result<Script, ScriptFault> {
+    parse(alloc, SCRIPT.as_bytes())
+}
+
 /// The text of a rule of missing values; for another rule, its word.
 fn rule_text(rule: &NaRule) -> &[u8] {
     match rule {
@@ -34,42 +40,61 @@ fn rule_text(rule: &NaRule) -> &[u8] {
     }
 }
 
-/// The descriptors of the script: each one's name, its rule, and whether it coerces.
-const DESCRS: &[(&str, &str, bool)] = &[
-    ("d", "--é", true),
-    ("e", "absent", false),
-    ("f", "nan", true),
-    ("g", "other", true),
+/// A descriptor of the script: its number, its name, its rule, and whether it coerces.
+type DescrRow = (u8, &'static str, &'static str, bool);
+
+const DESCRS: &[DescrRow] = &[
+    (0, "d", "--é", true),
+    (1, "e", "absent", false),
+    (2, "f", "nan", true),
+    (3, "g", "other", true),
 ];
+
+/// Whether a script has a row's descriptor.
+fn has_descr(script: &Script, row: &DescrRow) -> bool {
+    let (number, name, rule, coerce) = *row;
+    let named = script.names().descr(number) == Some(name);
+    let Some(descr) = script.decls().descrs().get(usize::from(number)) else {
+        return false;
+    };
+    named && rule_text(&descr.na) == rule.as_bytes() && descr.coerce == coerce
+}
 
 #[test]
 fn descriptors(rt: HostRuntime) -> Result<(), Fail> {
-    let script = parse(rt.alloc(), SCRIPT.as_bytes())?;
-    let descrs = script.decls().descrs();
-    assert_eq!(rt; descrs.len(), DESCRS.len());
-    for ((k, descr), (name, rule, coerce)) in (0u8..).zip(descrs.iter()).zip(DESCRS.iter()) {
-        assert!(rt; script.names().descr(k) == Some(*name), "{name}");
-        assert_eq!(rt; rule_text(&descr.na), rule.as_bytes(), "{name}");
-        assert_eq!(rt; descr.coerce, *coerce, "{name}");
+    let script = parsed(rt.alloc())?;
+    for row in DESCRS {
+        assert!(rt; has_descr(&script, row), "{row:?}");
     }
+    assert_eq!(rt; script.decls().descrs().len(), DESCRS.len());
     assert!(rt; script.names().descr(4).is_none());
     Ok(())
 }
 
-/// The arrays of the script: each one's name, the number of its home, and its length.
-const ARRAYS: &[(&str, u8, u32)] = &[("b", 1, 1), ("a", 0, 2), ("c", 0, 3)];
+/// An array of the script: its number, its name, the number of its home, and its length.
+type ArrayRow = (u32, &'static str, u8, u32);
+
+const ARRAYS: &[ArrayRow] = &[(0, "b", 1, 1), (1, "a", 0, 2), (2, "c", 0, 3)];
+
+/// Whether a script has a row's array, one of texts.
+fn has_array(script: &Script, row: &ArrayRow) -> bool {
+    let (number, name, home, len) = *row;
+    let named = script.names().array(number) == Some(name);
+    match script.decls().arrays().get(number as usize) {
+        Some(array) => {
+            named && array.home == home && array.kind == Kind::Str && array.len == len
+        }
+        None => false,
+    }
+}
 
 #[test]
 fn arrays(rt: HostRuntime) -> Result<(), Fail> {
-    let script = parse(rt.alloc(), SCRIPT.as_bytes())?;
-    let arrays = script.decls().arrays();
-    assert_eq!(rt; arrays.len(), ARRAYS.len());
-    for ((k, array), (name, home, len)) in (0u32..).zip(arrays.iter()).zip(ARRAYS.iter()) {
-        assert!(rt; script.names().array(k) == Some(*name), "{name}");
-        assert_eq!(rt; array.home, *home, "{name}");
-        assert_eq!(rt; array.kind, Kind::Str, "{name}");
-        assert_eq!(rt; array.len, *len, "{name}");
+    let script = parsed(rt.alloc())?;
+    for row in ARRAYS {
+        assert!(rt; has_array(&script, row), "{row:?}");
     }
+    assert_eq!(rt; script.decls().arrays().len(), ARRAYS.len());
     assert!(rt; script.names().array(3).is_none());
     Ok(())
 }
@@ -90,12 +115,26 @@ fn view_of(call: &Call) -> Option<View> {
     }
 }
 
-/// The bytes of a value's text; none of a missing value.
-fn text_of(value: &Value) -> Option<&[u8]> {
-    match value {
-        Value::Missing => None,
-        Value::Of(text) => Some(text.as_bytes()),
+/// Whether a value is this text, or missing where there is none.
+fn is_item(value: &Value, item: &Option<&str>) -> bool {
+    match (value, item) {
+        (Value::Missing, None) => true,
+        (Value::Of(text), Some(item)) => text.as_bytes() == item.as_bytes(),
+        _ => false,
     }
+}
+
+/// Whether values are these texts, none in place of a missing one.
+fn are_items(values: &[Value], items: &[Option<&str>]) -> bool {
+    if values.len() != items.len() {
+        return false;
+    }
+    for k in 0..values.len() {
+        if !is_item(&values[k], &items[k]) {
+            return false;
+        }
+    }
+    true
 }
 
 /// The view of a whole array.
@@ -108,9 +147,41 @@ fn whole(array: u32, count: u32) -> View {
     }
 }
 
+/// Whether a call sets a view to these items.
+fn is_set(call: &Call, out: View, items: &[Option<&str>]) -> bool {
+    match literal_of(call) {
+        Some(values) => call.op == Op::Set && call.out == Some(out) && are_items(values, items),
+        None => false,
+    }
+}
+
 /// The call of a script by the numbers of its task and of the call there.
 fn call_of(script: &Script, task: usize, call: usize) -> Option<&Call> {
     script.tasks().get(task)?.get(call)
+}
+
+/// A task of the script: its number, and how many calls it has.
+type TaskRow = (usize, usize);
+
+const TASKS: &[TaskRow] = &[(0, 1), (1, 0), (2, 3)];
+
+/// Whether a script has a row's task, with so many calls.
+fn has_task(script: &Script, row: &TaskRow) -> bool {
+    let (task, calls) = *row;
+    match script.tasks().get(task) {
+        Some(list) => list.len() == calls,
+        None => false,
+    }
+}
+
+#[test]
+fn calls_of_each_task(rt: HostRuntime) -> Result<(), Fail> {
+    let script = parsed(rt.alloc())?;
+    for row in TASKS {
+        assert!(rt; has_task(&script, row), "{row:?}");
+    }
+    assert_eq!(rt; script.tasks().len(), TASKS.len());
+    Ok(())
 }
 
 /// The calls of the script that set: the numbers of the task and of the call there, the number of the
@@ -122,26 +193,18 @@ const SETS: &[(usize, usize, u32, u32, &[Option<&str>])] = &[
 ];
 
 #[test]
-fn calls_of_tasks(rt: HostRuntime) -> Result<(), Fail> {
-    let script = parse(rt.alloc(), SCRIPT.as_bytes())?;
-    assert_eq!(rt; script.tasks().len(), 3);
-    for (task, count) in [1, 0, 3].into_iter().enumerate() {
-        let calls = script.tasks().get(task).ok_or("no such task")?;
-        assert_eq!(rt; calls.len(), count, "task {task}");
-    }
+fn calls_that_set(rt: HostRuntime) -> Result<(), Fail> {
+    let script = parsed(rt.alloc())?;
     for (task, number, array, len, items) in SETS {
         let call = call_of(&script, *task, *number).ok_or("no such call")?;
-        assert_eq!(rt; call.op, Op::Set, "{task}:{number}");
-        assert_eq!(rt; call.out, Some(whole(*array, *len)), "{task}:{number}");
-        let values = literal_of(call).ok_or("no literal")?;
-        assert_eq!(rt; values.len(), items.len(), "{task}:{number}");
-        for (value, item) in values.iter().zip(items.iter()) {
-            assert!(rt;
-                text_of(value) == item.map(|text| text.as_bytes()),
-                "{item:?}"
-            );
-        }
+        assert!(rt; is_set(call, whole(*array, *len), items), "{task}:{number}");
     }
+    Ok(())
+}
+
+#[test]
+fn a_call_that_shows(rt: HostRuntime) -> Result<(), Fail> {
+    let script = parsed(rt.alloc())?;
     let show = call_of(&script, 2, 2).ok_or("no such call")?;
     assert_eq!(rt; show.op, Op::Show);
     assert_eq!(rt; show.out, None);
