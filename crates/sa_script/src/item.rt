@@ -1,4 +1,4 @@
-ghost use Rattle.std.specs.Prelude.{◌≡◌, ◌++◌, ◌∷◌, [], Option, Some, option_map, IfOk, length};
+ghost use Rattle.std.specs.Prelude.{◌≡◌, ◌≤◌, [], Some, option_map, IfOk, OnOk, length, take};
 ghost use Rattle.sa_text.specs.Texts.{text_of};
 ghost use Rattle.sa_script.specs.Items.{fitting, text_at, text_token, item_at, further_at, items_at, of_text, one_more, list_of, missing_at};
 
@@ -11,11 +11,14 @@ use std::alloc::Global;
 /// The most items of one literal list.
 const MOST_ITEMS: usize = 8192;
 
-/// The text that bytes are; none inside where they are too many, and none where they are no UTF-8.
-fn fitting(alloc: Global, bytes: &[u8]) -> Result<Option<Option<Text>>, Memory>
-    ensures { IfOk result (λ r. r ≡ fitting (text_of bytes.now)) }
+/// The text that the first `size` bytes are; none inside where they are too many, and none where they
+/// are no UTF-8.
+#[inline(always)]
+fn fitting(alloc: Global, bytes: &[u8], size: usize) -> Result<Option<Option<Text>>, Memory>
+    requires { size ≤ length bytes.now }
+    ensures { IfOk result (λ r. r ≡ fitting (text_of (take size bytes.now))) }
 {
-    match Text::from_bytes(alloc, bytes) {
+    match Text::of_front(alloc, bytes, size) {
         Ok(text) => Ok(Some(Some(text))),
         Err(TextError::TooLong) => Ok(Some(None)),
         Err(TextError::NotUtf8) => Ok(None),
@@ -25,6 +28,7 @@ fn fitting(alloc: Global, bytes: &[u8]) -> Result<Option<Option<Text>>, Memory>
 
 /// Reads a quoted text at the front, none inside where it is too long, and what follows it. A text
 /// without escapes is read where it stands.
+#[inline(always)]
 fn text_at<'a>(
     alloc: Global,
     scratch: &mut Vec<u8>,
@@ -33,7 +37,7 @@ fn text_at<'a>(
     ensures { IfOk result (λ r. option_map (λ x. (x.0, x.1.now)) r ≡ text_at bytes.now) }
 {
     if let Some((text, size, rest)) = plain_at(bytes) {
-        return match fitting(alloc, &text[..size])? {
+        return match fitting(alloc, text, size)? {
             Some(text) => Ok(Some((text, rest))),
             None => Ok(None),
         };
@@ -41,7 +45,7 @@ fn text_at<'a>(
     let Some(rest) = quoted_at(scratch, bytes)? else {
         return Ok(None);
     };
-    match fitting(alloc, scratch.as_slice())? {
+    match fitting(alloc, scratch.as_slice(), scratch.len())? {
         Some(text) => Ok(Some((text, rest))),
         None => Ok(None),
     }
@@ -63,6 +67,7 @@ pub fn text_token(
 
 /// Reads an item at the front: `na`, or a text, none inside where it is too long; and what follows
 /// it.
+#[inline(always)]
 fn item_at<'a>(
     alloc: Global,
     scratch: &mut Vec<u8>,
@@ -83,6 +88,7 @@ fn item_at<'a>(
 }
 
 /// The word `na`, of which the first letter was read, and what follows it.
+#[inline(always)]
 fn missing_at(bytes: &[u8]) -> Option<(Option<Value>, &[u8])>
     ensures { option_map (λ x. (x.0, x.1.now)) result ≡ missing_at bytes.now }
 {
@@ -94,6 +100,7 @@ fn missing_at(bytes: &[u8]) -> Option<(Option<Value>, &[u8])>
 }
 
 /// The value that a text is.
+#[inline(always)]
 fn of_text(text: Option<Text>) -> Option<Value>
     ensures { result ≡ of_text text }
 {
@@ -103,31 +110,38 @@ fn of_text(text: Option<Text>) -> Option<Value>
     }
 }
 
-/// One more item of a list: none once an item was too long or there are more items than a list may
-/// have.
-fn one_more(so_far: Option<ValueList>, item: Option<Value>) -> Result<Option<ValueList>, Memory>
-    ensures { IfOk result (λ r. r ≡ one_more so_far item) }
+/// One more item of a list, which is none once an item was too long or there are more items than a list
+/// may have.
+#[inline(always)]
+fn one_more(so_far: &mut Option<ValueList>, item: Option<Value>) -> Result<(), Memory>
+    ensures { OnOk result (so_far.new ≡ one_more so_far.old item) }
 {
-    let (Some(mut values), Some(value)) = (so_far, item) else {
-        return Ok(None);
+    let Some(values) = so_far else {
+        return Ok(());
+    };
+    let Some(value) = item else {
+        *so_far = None;
+        return Ok(());
     };
     if values.len() >= MOST_ITEMS {
-        return Ok(None);
+        *so_far = None;
+        return Ok(());
     }
     match values.push(value) {
-        Ok(()) => Ok(Some(values)),
+        Ok(()) => Ok(()),
         Err((memory, _)) => Err(memory),
     }
 }
 
-/// Reads one more item and the byte behind it, and what follows that.
+/// Reads one more item of a list, and answers the byte behind it and what follows that.
+#[inline(always)]
 fn further_at<'a>(
     alloc: Global,
     scratch: &mut Vec<u8>,
-    so_far: Option<ValueList>,
+    so_far: &mut Option<ValueList>,
     bytes: &'a [u8],
-) -> Result<Option<(Option<ValueList>, u8, &'a [u8])>, Memory>
-    ensures { IfOk result (λ r. option_map (λ x. (x.0, x.1, x.2.now)) r ≡ further_at so_far bytes.now) }
+) -> Result<Option<(u8, &'a [u8])>, Memory>
+    ensures { IfOk result (λ r. option_map (λ x. (so_far.new, x.0, x.1.now)) r ≡ further_at so_far.old bytes.now) }
 {
     let Some((item, behind)) = item_at(alloc, scratch, bytes)? else {
         return Ok(None);
@@ -135,8 +149,8 @@ fn further_at<'a>(
     let Some((byte, rest)) = first(behind) else {
         return Ok(None);
     };
-    let items = one_more(so_far, item)?;
-    Ok(Some((items, byte, rest)))
+    one_more(so_far, item)?;
+    Ok(Some((byte, rest)))
 }
 
 /// Reads items behind an opening bracket, and what follows the closing one. None inside where an
@@ -151,16 +165,15 @@ fn items_at<'a>(
     let mut so_far = Some(ValueList::new(alloc));
     let mut rest = bytes;
     'items: for _ in 0..bytes.len() {
-        let Some((items, byte, others)) = further_at(alloc, scratch, so_far, rest)? else {
+        let Some((byte, others)) = further_at(alloc, scratch, &mut so_far, rest)? else {
             return Ok(None);
         };
         if byte == b')' {
-            return Ok(Some((items, others)));
+            return Ok(Some((so_far, others)));
         }
         if byte != b',' {
             return Ok(None);
         }
-        so_far = items;
         rest = others;
     }
     Ok(None)
@@ -185,7 +198,11 @@ pub fn list_of(
         };
     }
     match item_at(alloc, scratch, token)? {
-        Some((item, [])) => Ok(Some(one_more(Some(ValueList::new(alloc)), item)?)),
+        Some((item, [])) => {
+            let mut list = Some(ValueList::new(alloc));
+            one_more(&mut list, item)?;
+            Ok(Some(list))
+        }
         _ => Ok(None),
     }
 }

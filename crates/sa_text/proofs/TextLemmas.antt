@@ -1,8 +1,12 @@
 -- What the definition of a text gives, by the test for UTF-8.
-use Rattle.std.proofs.Common.{◌≡◌, ◌≤◌, ℕ, false, List, length, Ok, Err, IsUtf8, refl, sym, ap, ◌∙◌, inl, inr, encode_utf8_all}
-use Rattle.std.specs.Str.{chars, is_utf8, bytes_eq}
+use Rattle.std.proofs.Common.{◌≡◌, ◌≤◌, ℕ, true, false, List, [], ◌∷◌, length, Ok, Err, IsUtf8, refl, sym, ap, ◌∙◌, inl, inr, encode_utf8_all}
+use Rattle.std.specs.Char.{is_ascii}
+use Rattle.std.specs.List.{list_all}
+use Rattle.std.specs.Str.{chars, is_utf8, bytes_eq, IsAscii}
+use Rattle.std.proofs.lemmas.Str.{IsUtf8-from_ascii}
+use Rattle.std.proofs.lemmas.Str.Ascii.{IsAscii-nil, IsAscii-cons}
 use Rattle.std.proofs.lemmas.Str.{IsUtf8-from_is_utf8, is_utf8-from_IsUtf8, encodes-chars}
-use Rattle.std.proofs.lemmas.Bool.{cases_Bool, le-leb}
+use Rattle.std.proofs.lemmas.Bool.{cases_Bool, le-leb, and_parts, ltb-true}
 use Rattle.std.proofs.lemmas.Bool.Decides.{same_from_decides, Decides-like}
 use Rattle.std.proofs.lemmas.Slice.Eq.{bytes_eq-Decides}
 use Rattle.sa_text.specs.declared.text_error.TextError.TheVariants as errors
@@ -26,3 +30,11 @@ bytes_eq-chars a b ua ub =
     same_from_decides (bytes_eq a b) (bytes_eq (chars a) (chars b))
     (Decides-like (bytes_eq a b) (λ e. ap chars e) (λ (e : chars a ≡ chars b). sym (encodes-chars a ua) ∙ ap encode_utf8_all e ∙ encodes-chars b ub) (bytes_eq-Decides a b))
     (bytes_eq-Decides (chars a) (chars b))
+
+-- ASCII bytes are UTF-8
+all_ascii : (bytes : List ℕ) → list_all is_ascii bytes ≡ true → IsAscii bytes
+all_ascii [] e = IsAscii-nil
+all_ascii (b ∷ bs) e = let parts = and_parts (is_ascii b) (list_all is_ascii bs) e in IsAscii-cons b bs (ltb-true b 128 parts.0) (all_ascii bs parts.1)
+
+pub ascii-utf8 : (bytes : List ℕ) → list_all is_ascii bytes ≡ true → IsUtf8 bytes
+ascii-utf8 bytes e = IsUtf8-from_ascii bytes (all_ascii bytes e)

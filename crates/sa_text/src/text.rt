@@ -1,4 +1,6 @@
 ghost use Rattle.std.specs.Prelude.{◌≡◌, ◌+◌, ◌≤◌, length, take, drop, IfOk, IsUtf8, encode_utf8_all};
+ghost use Rattle.std.specs.Char.{is_ascii};
+ghost use Rattle.std.specs.List.{list_all};
 ghost use Rattle.std.specs.Str.{chars, bytes_eq};
 ghost use Rattle.sa_text.specs.Texts.{Gives, text_of, text_size, most_bytes};
 
@@ -10,6 +12,9 @@ use std::marker::Model;
 
 /// The most bytes that one text has.
 pub const MAX_BYTES: usize = 65_536;
+
+/// The most bytes that are looked at one by one.
+const SHORT: usize = 16;
 
 /// A text: UTF-8 of at most 65,536 bytes, which its copies share. Contracts see its code points, in
 /// order.
@@ -46,6 +51,22 @@ impl Text {
             Ok(bytes) => Ok(Text { bytes }),
             Err(_) => Err(TextError::Memory),
         }
+    }
+
+    /// The text that the first `size` bytes of a slice are, as `from_bytes` answers it. Bytes behind them
+    /// may be read, and count for nothing. Short ASCII is told by itself.
+    #[inline(always)]
+    pub fn of_front(alloc: Global, bytes: &[u8], size: usize) -> Result<Text, TextError>
+        requires { size ≤ length bytes.now }
+        ensures { Gives result (text_of (take size bytes.now)) }
+    {
+        if size <= SHORT && is_ascii(&bytes[..size]) {
+            let Ok(text) = Text::from_front(alloc, bytes, size) else {
+                return Err(TextError::Memory);
+            };
+            return Ok(text);
+        }
+        Text::from_bytes(alloc, &bytes[..size])
     }
 
     /// The text of UTF-8 of at most 65,536 bytes, which is not tested again. `Memory` where there is no
@@ -134,4 +155,12 @@ impl Text {
     {
         self.bytes.is_same(&other.bytes)
     }
+}
+
+/// Whether all bytes are ASCII.
+#[inline(always)]
+fn is_ascii(bytes: &[u8]) -> bool
+    ensures { result ≡ list_all is_ascii bytes.now }
+{
+    bytes.iter().all(|byte| *byte < 128)
 }
