@@ -1,5 +1,5 @@
 -- Laws of layouts: a put keeps one sound, and changes the value of its entry alone.
-use Rattle.std.proofs.Common.{◌≡◌, ◌≤◌, ◌<◌, ◌≢◌, ◌+◌, nat_lt, ℕ, zero, suc, Bool, true, false, cond, List, [], ◌∷◌, ◌++◌, length, map, sum, count_by, Some, None, unwrap_or, refl, sym, ap, ◌∙◌, inl, inr, arith, get_or, set, length-set, length-append, subst, get_or-set_other}
+use Rattle.std.proofs.Common.{◌≡◌, ◌≤◌, ◌<◌, ◌≢◌, ◌+◌, nat_lt, ℕ, zero, suc, Bool, true, false, cond, List, [], ◌∷◌, ◌++◌, length, map, sum, count_by, Option, Some, None, is_some, unwrap_or, refl, sym, ap, ◌∙◌, inl, inr, arith, get_or, set, length-set, length-append, subst, get_or-set_other, if◌then◌else◌}
 use Rattle.std.proofs.lemmas.Grind.{common_steps}
 use Rattle.std.proofs.lemmas.Bool.{cases_Bool, cases_lt, eq-eqb, leb-true, lt-ltb, le-ltb}
 use Rattle.std.proofs.lemmas.Bool.Decides.{eqb_tells}
@@ -59,28 +59,21 @@ live-push [] e (suc k) t = rw (eqb-zero-suc k) refl
 live-push (x ∷ es) e zero t = rw (eqb-suc-zero (length es)) (omega arith)
 live-push (x ∷ es) e (suc k) t = live-push es e k t ∙ ap (λ b. one_if (is_live es k) + one_if b) (sym (eqb-suc-suc (length es) k))
 
-pub live-with_none : (es : List Extent) (j k : ℕ) → is_live es j ≡ true → one_if (is_live (with_text es j None) k) + one_if (eqb j k) ≡ one_if (is_live es k)
-live-with_none es j k t =
+pub live-with_text : (es : List Extent) (j : ℕ) (t : Option (List ℕ)) (k : ℕ) → is_live es j ≡ true → one_if (is_live (with_text es j t) k) + one_if (eqb j k) ≡ one_if (is_live es k) + (if eqb j k then one_if (is_some t) else 0)
+live-with_text es j t k live =
     elim (eqb_tells j k) [
       | inl w ↦
-          let same = extent_at-with_text es j None (live-below es j t) in
-          let dead : is_live (with_text es j None) k ≡ false = ap (is_live (with_text es j None)) (sym w.1) ∙ ap has_text same in
-          let live : is_live es k ≡ true = ap (is_live es) (sym w.1) ∙ t in
-          rw (dead, live, w.0) refl
+          let after : is_live (with_text es j t) k ≡ is_some t = ap (is_live (with_text es j t)) (sym w.1) ∙ ap has_text (extent_at-with_text es j t (live-below es j live)) in
+          let before : is_live es k ≡ true = ap (is_live es) (sym w.1) ∙ live in
+          rw (after, before, w.0) (omega arith)
       | inr w ↦
-          let other = extent_at-with_text_other es j k None (λ e. w.1 (sym e)) in
-          let same : is_live (with_text es j None) k ≡ is_live es k = ap has_text other in
-          rw (same, w.0) (omega arith)
+          let same : is_live (with_text es j t) k ≡ is_live es k = ap has_text (extent_at-with_text_other es j k t (λ e. w.1 (sym e))) in
+          rw (same, w.0) refl
     ]
 
-pub live-with_some : (es : List Extent) (j : ℕ) (t : List ℕ) (k : ℕ) → is_live es j ≡ true → is_live (with_text es j (Some t)) k ≡ is_live es k
-live-with_some es j t k live =
-    elim (eqb_tells j k) [
-      | inl w ↦
-          let same = extent_at-with_text es j (Some t) (live-below es j live) in
-          ap (is_live (with_text es j (Some t))) (sym w.1) ∙ ap has_text same ∙ sym live ∙ ap (is_live es) w.1
-      | inr w ↦ ap has_text (extent_at-with_text_other es j k (Some t) (λ e. w.1 (sym e)))
-    ]
+pub none_if : (b : Bool) → ◌≡◌ {A = ℕ} (if b then 0 else 0) 0
+none_if true = refl
+none_if false = refl
 
 -- what holds of each live extent
 
@@ -100,23 +93,14 @@ all_live-push P es e new held k live =
           subst P (sym (ap (extent_at (es ++ e ∷ [])) last ∙ extent_at-end es e)) new
     ]
 
-pub all_live-with_text : (P : Extent → Type 0) → (es : List Extent) (k : ℕ) (t : List ℕ) → k < length es → P (record { capacity = (extent_at es k).capacity; text = Some t }) → AllLive P es → AllLive P (with_text es k (Some t))
+pub all_live-with_text : (P : Extent → Type 0) → (es : List Extent) (k : ℕ) (t : Option (List ℕ)) → k < length es → (is_some t ≡ true → P (record { capacity = (extent_at es k).capacity; text = t })) → AllLive P es → AllLive P (with_text es k t)
 all_live-with_text P es k t below new held n live =
     elim (eqb_tells n k) [
-      | inl w ↦ subst P (sym (ap (extent_at (with_text es k (Some t))) w.1 ∙ extent_at-with_text es k (Some t) below)) new
-      | inr w ↦
-          let same = extent_at-with_text_other es k n (Some t) w.1 in
-          subst P (sym same) (held n (sym (ap has_text same) ∙ live))
-    ]
-
-pub all_live-with_none : (P : Extent → Type 0) → (es : List Extent) (k : ℕ) → k < length es → AllLive P es → AllLive P (with_text es k None)
-all_live-with_none P es k below held n live =
-    elim (eqb_tells n k) [
       | inl w ↦
-          let dead : is_live (with_text es k None) n ≡ false = ap (is_live (with_text es k None)) w.1 ∙ ap has_text (extent_at-with_text es k None below) in
-          cc
+          let here = ap (extent_at (with_text es k t)) w.1 ∙ extent_at-with_text es k t below in
+          subst P (sym here) (new (sym (ap has_text here) ∙ live))
       | inr w ↦
-          let same = extent_at-with_text_other es k n None w.1 in
+          let same = extent_at-with_text_other es k n t w.1 in
           subst P (sym same) (held n (sym (ap has_text same) ∙ live))
     ]
 
@@ -149,10 +133,10 @@ pub balance : (es : List Extent) (b : Incoming) (s : EntryState) (k : ℕ) → N
 balance es (Outer t) Fresh k n = let push = live-push es (extent_for (text_size t) t) k refl in omega arith
 balance es (Outer t) (InArena j) k n =
     elim (cases_Bool (fits_in es j t)) [
-      | inl t_is ↦ let same : one_if (is_live (with_text es j (Some t)) k) ≡ one_if (is_live es k) = ap one_if (live-with_some es j t k n) in rw t_is (omega arith)
-      | inr f_is ↦ let gone = live-with_none es j k n in rw f_is (omega arith)
+      | inl t_is ↦ let w = live-with_text es j (Some t) k n in rw t_is w
+      | inr f_is ↦ let w = live-with_text es j None k n in let z = none_if (eqb j k) in rw f_is (omega arith)
     ]
-balance es b (InArena j) k n = let gone = live-with_none es j k n in omega arith
+balance es b (InArena j) k n = let w = live-with_text es j None k n in let z = none_if (eqb j k) in omega arith
 balance es b s k n = refl
 
 -- a live text fits into its extent
@@ -163,13 +147,10 @@ HasRoom e = text_size (text_bytes e) ≤ e.capacity
 pub room-after : (es : List Extent) (b : Incoming) (s : EntryState) → Named es s → AllLive HasRoom es → AllLive HasRoom (extents_after es s b)
 room-after es (Outer t) Fresh n room = all_live-push HasRoom es (extent_for (text_size t) t) (omega arith) room
 room-after es (Outer t) (InArena j) n room =
-    elim (cases_Bool (fits_in es j t)) [
-      | inl t_is ↦
-          let fits : text_size t ≤ (extent_at es j).capacity = leb-true (text_size t) (extent_at es j).capacity t_is in
-          rw t_is (all_live-with_text HasRoom es j t (live-below es j n) fits room)
-      | inr f_is ↦ rw f_is (all_live-with_none HasRoom es j (live-below es j n) room)
-    ]
-room-after es b (InArena j) n room = all_live-with_none HasRoom es j (live-below es j n) room
+    let new : is_some (if fits_in es j t then Some t else None) ≡ true → text_size (unwrap_or (if fits_in es j t then Some t else None) []) ≤ (extent_at es j).capacity =
+    elim (cases_Bool (fits_in es j t)) [ inl t_is ↦ rw t_is (λ _. leb-true (text_size t) (extent_at es j).capacity t_is) | inr f_is ↦ rw f_is (λ e. cc) ] in
+    all_live-with_text HasRoom es j (if fits_in es j t then Some t else None) (live-below es j n) new room
+room-after es b (InArena j) n room = all_live-with_text HasRoom es j None (live-below es j n) (λ e. cc) room
 room-after es b s n room = room
 
 -- a put into an entry that exists, and into none
@@ -234,12 +215,7 @@ Disjoint s t = Unit {0}
 
 pub extent_at-after : (es : List Extent) (b : Incoming) (s : EntryState) (n : ℕ) → is_live es n ≡ true → Disjoint s (InArena n) → extent_at (extents_after es s b) n ≡ extent_at es n
 extent_at-after es (Outer t) Fresh n live apart = extent_at-append es (extent_for (text_size t) t ∷ []) n (live-below es n live)
-extent_at-after es (Outer t) (InArena j) n live apart =
-    elim (cases_Bool (fits_in es j t)) [
-      | inl t_is ↦ rw t_is (extent_at-with_text_other es j n (Some t) apart)
-      | inr f_is ↦ rw f_is (extent_at-with_text_other es j n None apart)
-    ]
-extent_at-after es b (InArena j) n live apart = extent_at-with_text_other es j n None apart
+extent_at-after es b (InArena j) n live apart = extent_at-with_text_other es j n _ apart
 extent_at-after es b s n live apart = refl
 
 pub value-other : (es : List Extent) (s : EntryState) (b : Incoming) (t : EntryState) → Named es t → Disjoint s t → value_in (trimmed (extents_after es s b)) t ≡ value_in es t

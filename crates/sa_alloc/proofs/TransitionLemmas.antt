@@ -17,7 +17,7 @@ use Rattle.sa_alloc.specs.Layouts as layouts
 use Rattle.sa_alloc.specs.Layouts.{EntryState, Incoming, Nothing, Short, Outer, incoming, extents_after, state_after, one_if, fits_in}
 use Rattle.sa_alloc.specs.Transitions.{Storage, IsSpelled, Spelled, killed, FreesKey, SwapsKey, GainsKey, GoesOutside, ReleasesText, key_of, TakesText, StepsStore}
 use Rattle.sa_alloc.specs.Consistency.{state_of, decoded, IsOuter, HoldsText, NamesExtent, NamesBytes, IsTrueOfSlot, HoldsTexts, is_at_key, is_outside}
-use Rattle.sa_alloc.proofs.LayoutLemmas.{AllLive, all_live-push, all_live-with_text, all_live-with_none, all_live-trimmed}
+use Rattle.sa_alloc.proofs.LayoutLemmas.{none_if, AllLive, all_live-push, all_live-with_text, all_live-trimmed}
 use Rattle.sa_alloc.proofs.DecodedLemmas.{decoded-trim, decoded-killed, decoded-with_text, decoded-push, decoded-fits}
 use Rattle.sa_alloc.proofs.ConsistencyLemmas.{near-same, near-push, near-with_text, near-killed, MovesExtents, AllKept, MovesTexts, Moves}
 
@@ -48,7 +48,7 @@ module _ (es : List Extent) (at : ℕ) (live : is_live es (number_at es at) ≡ 
         number = n;
         near = near-killed es n;
         named = λ _. eq-eqb n n refl;
-        held = all_live-trimmed HoldsText (with_text es n None) (all_live-with_none HoldsText es n (live-below es n live) held);
+        held = all_live-trimmed HoldsText (with_text es n None) (all_live-with_text HoldsText es n None (live-below es n live) (λ e. cc) held);
         trim = trimmed-twice (with_text es n None);
       }
 
@@ -60,7 +60,7 @@ module _ (es : List Extent) (at : ℕ) (live : is_live es (number_at es at) ≡ 
         number = n;
         near = near-with_text es n (Some bytes);
         named = λ _. eq-eqb n n refl;
-        held = all_live-with_text HoldsText es n bytes below (record { outer = outer; room = room }) held;
+        held = all_live-with_text HoldsText es n (Some bytes) below (λ _. record { outer = outer; room = room }) held;
         trim = trimmed-with_text es n bytes trim below;
       }
 
@@ -118,10 +118,6 @@ changed-keys ks ks' key other b was is was_is is_is changes =
           let same : is_used ks' other ≡ is_used ks other = ap is_some (changes.others other (λ e. w.1 (sym e))) in
           rw (same, w.0) refl
     ]
-
-none_if : (b : Bool) → ◌≡◌ {A = ℕ} (if b then 0 else 0) 0
-none_if true = refl
-none_if false = refl
 
 module _ (ks ks' : List (Option (List ℕ))) (key : ℕ) (kept : AllKept ks) where
   freed-texts : (size : ℕ) (new : Slot) → is_used ks key ≡ true → FreesKey ks ks' key → IsKeyless new → MovesTexts ks (Outside key size) ks' new

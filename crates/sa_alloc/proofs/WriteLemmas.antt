@@ -1,5 +1,5 @@
 -- A plan that is being written, put by put.
-use Rattle.std.proofs.Common.{◌≡◌, ◌≤◌, ◌<◌, ◌+◌, nat_lt, ℕ, List, [], ◌∷◌, length, Some, None, sym, ◌∙◌, subst, inl, inr, arith}
+use Rattle.std.proofs.Common.{◌≡◌, ◌≤◌, ◌<◌, ◌+◌, nat_lt, ℕ, List, [], ◌∷◌, length, Some, None, sym, ◌∙◌, subst, inl, inr, arith, if◌then◌else◌}
 use Rattle.std.specs.List.{AllByRecursion}
 use Rattle.std.proofs.lemmas.Bool.{cases_Bool}
 use Rattle.sa_text.specs.declared.value.Value.{Value}
@@ -21,11 +21,7 @@ pub record IsWriting (end : Layout) (size : ℕ) (now : StoreValue) (first : ℕ
 
 pub cursor-after : (es : List Extent) (b : Incoming) (s : EntryState) → cursor_of (extents_after es s b) ≤ cursor_of es + bytes_appended s b
 cursor-after es (Outer t) Fresh = let a = cursor-append es (extent_for (text_size t) t ∷ []) in let b = cursor-cons (extent_for (text_size t) t) [] in omega arith
-cursor-after es (Outer t) (InArena k) =
-    elim (cases_Bool (fits_in es k t)) [
-      | inl t_is ↦ let a = cursor-with_text es k (Some t) in rw t_is (omega arith)
-      | inr f_is ↦ let a = cursor-with_text es k None in rw f_is (omega arith)
-    ]
+cursor-after es (Outer t) (InArena k) = let a = cursor-with_text es k (if fits_in es k t then Some t else None) in omega arith
 cursor-after es b (InArena k) = let a = cursor-with_text es k None in omega arith
 cursor-after es b s = omega arith
 

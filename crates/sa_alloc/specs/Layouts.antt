@@ -52,7 +52,7 @@ fits_in extents k text = nat_le (text_size text) (extent_at extents k).capacity
 -- The extents after a put, by the old state of its entry and what comes in: a fresh entry's long text is appended, a long text that fits takes the place of its entry's text, and the extent of an entry that leaves it dies.
 abbrev pub extents_after : List Extent → EntryState → Incoming → List Extent
 extents_after extents Fresh (Outer text) = extents ++ extent_for (text_size text) text ∷ []
-extents_after extents (InArena k) (Outer text) = if fits_in extents k text then with_text extents k (Some text) else with_text extents k None
+extents_after extents (InArena k) (Outer text) = with_text extents k (if fits_in extents k text then Some text else None)
 extents_after extents (InArena k) new = with_text extents k None
 extents_after extents old new = extents
 
