@@ -1,5 +1,5 @@
 -- Laws of layouts: a put keeps one sound, and changes the value of its entry alone.
-use Rattle.std.proofs.Common.{◌≡◌, ◌≤◌, ◌<◌, ◌≢◌, ◌+◌, nat_lt, ℕ, zero, suc, Bool, true, false, cond, List, [], ◌∷◌, ◌++◌, length, map, sum, count_by, Some, None, unwrap_or, refl, sym, ap, ◌∙◌, inl, inr, arith, get_or, set, length-set, length-append, subst, get_or-set_other}
+use Rattle.std.proofs.Common.{◌≡◌, ◌≤◌, ◌<◌, ◌≢◌, ◌+◌, nat_lt, ℕ, zero, suc, Bool, true, false, cond, List, [], ◌∷◌, ◌++◌, length, map, sum, count_by, Option, Some, None, is_some, unwrap_or, refl, sym, ap, ◌∙◌, inl, inr, arith, get_or, set, length-set, length-append, subst, get_or-set_other, if◌then◌else◌}
 use Rattle.std.proofs.lemmas.Grind.{common_steps}
 use Rattle.std.proofs.lemmas.Bool.{cases_Bool, cases_lt, eq-eqb, leb-true, lt-ltb, le-ltb}
 use Rattle.std.proofs.lemmas.Bool.Decides.{eqb_tells}
@@ -10,9 +10,9 @@ use Rattle.std.proofs.Math.Dec.{eqb, eqb-suc-suc, eqb-suc-zero, eqb-zero-suc}
 use Rattle.sa_text.specs.declared.value.Value.{Value}
 use Rattle.sa_text.specs.declared.value.Value.TheVariants as value
 use Rattle.sa_text.specs.Texts.{text_size}
-use Rattle.sa_arena.specs.Extents.{Extent, extent_at, is_live, with_text, trimmed, has_text}
+use Rattle.sa_arena.specs.Extents.{Extent, extent_at, is_live, with_text, trimmed, has_text, extent_for, text_bytes}
 use Rattle.sa_arena.proofs.ExtentLemmas.{live-below, trimmed-live, trimmed-extent_at, trimmed-twice, extent_at-end, extent_at-append, extent_at-with_text, extent_at-with_text_other}
-use Rattle.sa_alloc.specs.Layouts.{Layout, State, Fresh, In, Brought, Nothing, Short, Long, brought, opening_layout, extents_after, state_after, state_at, put_within, put, IsSound, is_in, one_if, new_extent, fits_in, values_of, value_in, extent_text}
+use Rattle.sa_alloc.specs.Layouts.{Layout, EntryState, Fresh, InArena, Incoming, Nothing, Short, Outer, incoming, opening_layout, extents_after, state_after, state_at, put_within, put, IsSound, is_in, one_if, fits_in, values_of, value_in}
 
 -- counts of members of a list
 
@@ -59,28 +59,21 @@ live-push [] e (suc k) t = rw (eqb-zero-suc k) refl
 live-push (x ∷ es) e zero t = rw (eqb-suc-zero (length es)) (omega arith)
 live-push (x ∷ es) e (suc k) t = live-push es e k t ∙ ap (λ b. one_if (is_live es k) + one_if b) (sym (eqb-suc-suc (length es) k))
 
-pub live-with_none : (es : List Extent) (j k : ℕ) → is_live es j ≡ true → one_if (is_live (with_text es j None) k) + one_if (eqb j k) ≡ one_if (is_live es k)
-live-with_none es j k t =
+pub live-with_text : (es : List Extent) (j : ℕ) (t : Option (List ℕ)) (k : ℕ) → is_live es j ≡ true → one_if (is_live (with_text es j t) k) + one_if (eqb j k) ≡ one_if (is_live es k) + (if eqb j k then one_if (is_some t) else 0)
+live-with_text es j t k live =
     elim (eqb_tells j k) [
       | inl w ↦
-          let same = extent_at-with_text es j None (live-below es j t) in
-          let dead : is_live (with_text es j None) k ≡ false = ap (is_live (with_text es j None)) (sym w.1) ∙ ap has_text same in
-          let live : is_live es k ≡ true = ap (is_live es) (sym w.1) ∙ t in
-          rw (dead, live, w.0) refl
+          let after : is_live (with_text es j t) k ≡ is_some t = ap (is_live (with_text es j t)) (sym w.1) ∙ ap has_text (extent_at-with_text es j t (live-below es j live)) in
+          let before : is_live es k ≡ true = ap (is_live es) (sym w.1) ∙ live in
+          rw (after, before, w.0) (omega arith)
       | inr w ↦
-          let other = extent_at-with_text_other es j k None (λ e. w.1 (sym e)) in
-          let same : is_live (with_text es j None) k ≡ is_live es k = ap has_text other in
-          rw (same, w.0) (omega arith)
+          let same : is_live (with_text es j t) k ≡ is_live es k = ap has_text (extent_at-with_text_other es j k t (λ e. w.1 (sym e))) in
+          rw (same, w.0) refl
     ]
 
-pub live-with_some : (es : List Extent) (j : ℕ) (t : List ℕ) (k : ℕ) → is_live es j ≡ true → is_live (with_text es j (Some t)) k ≡ is_live es k
-live-with_some es j t k live =
-    elim (eqb_tells j k) [
-      | inl w ↦
-          let same = extent_at-with_text es j (Some t) (live-below es j live) in
-          ap (is_live (with_text es j (Some t))) (sym w.1) ∙ ap has_text same ∙ sym live ∙ ap (is_live es) w.1
-      | inr w ↦ ap has_text (extent_at-with_text_other es j k (Some t) (λ e. w.1 (sym e)))
-    ]
+pub none_if : (b : Bool) → ◌≡◌ {A = ℕ} (if b then 0 else 0) 0
+none_if true = refl
+none_if false = refl
 
 -- what holds of each live extent
 
@@ -100,23 +93,14 @@ all_live-push P es e new held k live =
           subst P (sym (ap (extent_at (es ++ e ∷ [])) last ∙ extent_at-end es e)) new
     ]
 
-pub all_live-with_text : (P : Extent → Type 0) → (es : List Extent) (k : ℕ) (t : List ℕ) → k < length es → P (record { capacity = (extent_at es k).capacity; text = Some t }) → AllLive P es → AllLive P (with_text es k (Some t))
+pub all_live-with_text : (P : Extent → Type 0) → (es : List Extent) (k : ℕ) (t : Option (List ℕ)) → k < length es → (is_some t ≡ true → P (record { capacity = (extent_at es k).capacity; text = t })) → AllLive P es → AllLive P (with_text es k t)
 all_live-with_text P es k t below new held n live =
     elim (eqb_tells n k) [
-      | inl w ↦ subst P (sym (ap (extent_at (with_text es k (Some t))) w.1 ∙ extent_at-with_text es k (Some t) below)) new
-      | inr w ↦
-          let same = extent_at-with_text_other es k n (Some t) w.1 in
-          subst P (sym same) (held n (sym (ap has_text same) ∙ live))
-    ]
-
-pub all_live-with_none : (P : Extent → Type 0) → (es : List Extent) (k : ℕ) → k < length es → AllLive P es → AllLive P (with_text es k None)
-all_live-with_none P es k below held n live =
-    elim (eqb_tells n k) [
       | inl w ↦
-          let dead : is_live (with_text es k None) n ≡ false = ap (is_live (with_text es k None)) w.1 ∙ ap has_text (extent_at-with_text es k None below) in
-          cc
+          let here = ap (extent_at (with_text es k t)) w.1 ∙ extent_at-with_text es k t below in
+          subst P (sym here) (new (sym (ap has_text here) ∙ live))
       | inr w ↦
-          let same = extent_at-with_text_other es k n None w.1 in
+          let same = extent_at-with_text_other es k n t w.1 in
           subst P (sym same) (held n (sym (ap has_text same) ∙ live))
     ]
 
@@ -126,15 +110,15 @@ all_live-trimmed P es held n live =
     subst P (sym (trimmed-extent_at es n alive)) (held n alive)
 
 -- the extent that a state names is live
-abbrev pub Named : List Extent → State → Type 0
-Named es (In k) = is_live es k ≡ true
+abbrev pub Named : List Extent → EntryState → Type 0
+Named es (InArena k) = is_live es k ≡ true
 Named es other = Unit {0}
 
 pub named_at : (l : Layout) (i : ℕ) → IsSound l → i < length l.states → Named l.extents (state_at l.states i)
 named_at l i sound h = by_state (state_at l.states i) refl
   where
-    by_state : (s : State) → state_at l.states i ≡ s → Named l.extents s
-    by_state (In k) e =
+    by_state : (s : EntryState) → state_at l.states i ≡ s → Named l.extents s
+    by_state (InArena k) e =
         let here : is_in k (state_at l.states i) ≡ true = ap (is_in k) e ∙ grind (arith, common_steps) in
         let some = counts_member (is_in k) l.states i Fresh h here in
         let count = sound.named k in
@@ -145,31 +129,28 @@ named_at l i sound h = by_state (state_at l.states i) refl
     by_state s e = tt
 
 -- what a put adds to the live extents, it adds to the names
-pub balance : (es : List Extent) (b : Brought) (s : State) (k : ℕ) → Named es s → one_if (is_live (extents_after es s b) k) + one_if (is_in k s) ≡ one_if (is_live es k) + one_if (is_in k (state_after es s b))
-balance es (Long t) Fresh k n = let push = live-push es (new_extent t) k refl in omega arith
-balance es (Long t) (In j) k n =
+pub balance : (es : List Extent) (b : Incoming) (s : EntryState) (k : ℕ) → Named es s → one_if (is_live (extents_after es s b) k) + one_if (is_in k s) ≡ one_if (is_live es k) + one_if (is_in k (state_after es s b))
+balance es (Outer t) Fresh k n = let push = live-push es (extent_for (text_size t) t) k refl in omega arith
+balance es (Outer t) (InArena j) k n =
     elim (cases_Bool (fits_in es j t)) [
-      | inl t_is ↦ let same : one_if (is_live (with_text es j (Some t)) k) ≡ one_if (is_live es k) = ap one_if (live-with_some es j t k n) in rw t_is (omega arith)
-      | inr f_is ↦ let gone = live-with_none es j k n in rw f_is (omega arith)
+      | inl t_is ↦ let w = live-with_text es j (Some t) k n in rw t_is w
+      | inr f_is ↦ let w = live-with_text es j None k n in let z = none_if (eqb j k) in rw f_is (omega arith)
     ]
-balance es b (In j) k n = let gone = live-with_none es j k n in omega arith
+balance es b (InArena j) k n = let w = live-with_text es j None k n in let z = none_if (eqb j k) in omega arith
 balance es b s k n = refl
 
 -- a live text fits into its extent
 
 abbrev pub HasRoom : Extent → Type 0
-HasRoom e = text_size (extent_text e) ≤ e.capacity
+HasRoom e = text_size (text_bytes e) ≤ e.capacity
 
-pub room-after : (es : List Extent) (b : Brought) (s : State) → Named es s → AllLive HasRoom es → AllLive HasRoom (extents_after es s b)
-room-after es (Long t) Fresh n room = all_live-push HasRoom es (new_extent t) (omega arith) room
-room-after es (Long t) (In j) n room =
-    elim (cases_Bool (fits_in es j t)) [
-      | inl t_is ↦
-          let fits : text_size t ≤ (extent_at es j).capacity = leb-true (text_size t) (extent_at es j).capacity t_is in
-          rw t_is (all_live-with_text HasRoom es j t (live-below es j n) fits room)
-      | inr f_is ↦ rw f_is (all_live-with_none HasRoom es j (live-below es j n) room)
-    ]
-room-after es b (In j) n room = all_live-with_none HasRoom es j (live-below es j n) room
+pub room-after : (es : List Extent) (b : Incoming) (s : EntryState) → Named es s → AllLive HasRoom es → AllLive HasRoom (extents_after es s b)
+room-after es (Outer t) Fresh n room = all_live-push HasRoom es (extent_for (text_size t) t) (omega arith) room
+room-after es (Outer t) (InArena j) n room =
+    let new : is_some (if fits_in es j t then Some t else None) ≡ true → text_size (unwrap_or (if fits_in es j t then Some t else None) []) ≤ (extent_at es j).capacity =
+    elim (cases_Bool (fits_in es j t)) [ inl t_is ↦ rw t_is (λ _. leb-true (text_size t) (extent_at es j).capacity t_is) | inr f_is ↦ rw f_is (λ e. cc) ] in
+    all_live-with_text HasRoom es j (if fits_in es j t then Some t else None) (live-below es j n) new room
+room-after es b (InArena j) n room = all_live-with_text HasRoom es j None (live-below es j n) (λ e. cc) room
 room-after es b s n room = room
 
 -- a put into an entry that exists, and into none
@@ -182,7 +163,7 @@ put-past l i v h = let f_is = le-ltb i (length l.states) h in rw f_is refl
 pub within-sound : (l : Layout) (i : ℕ) (v : Value) → IsSound l → i < length l.states → IsSound (put_within l i v)
 within-sound l i v sound h = record {
   named = λ k.
-      let b = brought v in
+      let b = incoming v in
       let s = state_at l.states i in
       let set_is = count-set (is_in k) l.states i (state_after l.extents s b) Fresh h in
       let even = balance l.extents b s k (named_at l i sound h) in
@@ -190,10 +171,10 @@ within-sound l i v sound h = record {
       let before = sound.named k in
       omega arith;
   room =
-      let b = brought v in
+      let b = incoming v in
       let s = state_at l.states i in
       all_live-trimmed HasRoom (extents_after l.extents s b) (room-after l.extents b s (named_at l i sound h) sound.room);
-  last = trimmed-twice (extents_after l.extents (state_at l.states i) (brought v));
+  last = trimmed-twice (extents_after l.extents (state_at l.states i) (incoming v));
 }
 
 pub put-sound : (l : Layout) (i : ℕ) (v : Value) → IsSound l → IsSound (put l i v)
@@ -210,7 +191,7 @@ put-lengths l i v = elim (cases_Bool (nat_lt i (length l.states))) [ inl t_is �
 pub put-entries : (l : Layout) (i : ℕ) (v : Value) → length (put l i v).states ≡ length l.states
 put-entries l i v =
     elim (cases_Bool (nat_lt i (length l.states))) [
-      | inl t_is ↦ rw t_is (length-set l.states i (state_after l.extents (state_at l.states i) (brought v)))
+      | inl t_is ↦ rw t_is (length-set l.states i (state_after l.extents (state_at l.states i) (incoming v)))
       | inr f_is ↦ rw f_is refl
     ]
 
@@ -223,48 +204,43 @@ opening-sound lengths = record {
 
 -- the value of another entry stays
 
-abbrev pub Apart : ℕ → State → Type 0
-Apart k (In j) = j ≢ k
+abbrev pub Apart : ℕ → EntryState → Type 0
+Apart k (InArena j) = j ≢ k
 Apart k other = Unit {0}
 
 -- two states name no extent in common
-abbrev pub Disjoint : State → State → Type 0
-Disjoint (In k) t = Apart k t
+abbrev pub Disjoint : EntryState → EntryState → Type 0
+Disjoint (InArena k) t = Apart k t
 Disjoint s t = Unit {0}
 
-pub extent_at-after : (es : List Extent) (b : Brought) (s : State) (n : ℕ) → is_live es n ≡ true → Disjoint s (In n) → extent_at (extents_after es s b) n ≡ extent_at es n
-extent_at-after es (Long t) Fresh n live apart = extent_at-append es (new_extent t ∷ []) n (live-below es n live)
-extent_at-after es (Long t) (In j) n live apart =
-    elim (cases_Bool (fits_in es j t)) [
-      | inl t_is ↦ rw t_is (extent_at-with_text_other es j n (Some t) apart)
-      | inr f_is ↦ rw f_is (extent_at-with_text_other es j n None apart)
-    ]
-extent_at-after es b (In j) n live apart = extent_at-with_text_other es j n None apart
+pub extent_at-after : (es : List Extent) (b : Incoming) (s : EntryState) (n : ℕ) → is_live es n ≡ true → Disjoint s (InArena n) → extent_at (extents_after es s b) n ≡ extent_at es n
+extent_at-after es (Outer t) Fresh n live apart = extent_at-append es (extent_for (text_size t) t ∷ []) n (live-below es n live)
+extent_at-after es b (InArena j) n live apart = extent_at-with_text_other es j n _ apart
 extent_at-after es b s n live apart = refl
 
-pub value-other : (es : List Extent) (s : State) (b : Brought) (t : State) → Named es t → Disjoint s t → value_in (trimmed (extents_after es s b)) t ≡ value_in es t
-value-other es s b (In n) named apart =
+pub value-other : (es : List Extent) (s : EntryState) (b : Incoming) (t : EntryState) → Named es t → Disjoint s t → value_in (trimmed (extents_after es s b)) t ≡ value_in es t
+value-other es s b (InArena n) named apart =
     let same = extent_at-after es b s n named apart in
     let live : is_live (extents_after es s b) n ≡ true = ap has_text same ∙ named in
     ap (λ e. value.Of (unwrap_or e.text [])) (trimmed-extent_at (extents_after es s b) n live ∙ same)
 value-other es s b t named apart = refl
 
-abbrev pub value_of : Brought → Value
+abbrev pub value_of : Incoming → Value
 value_of Nothing = value.Missing
 value_of (Short text) = value.Of text
-value_of (Long text) = value.Of text
+value_of (Outer text) = value.Of text
 
-pub value_of-brought : (v : Value) → value_of (brought v) ≡ v
-value_of-brought value.Missing = refl
-value_of-brought (value.Of text) =
+pub value_of-incoming : (v : Value) → value_of (incoming v) ≡ v
+value_of-incoming value.Missing = refl
+value_of-incoming (value.Of text) =
     elim (cases_Bool (nat_lt (text_size text) 16)) [ inl t ↦ rw t refl | inr f ↦ rw f refl ]
 
-pub value-put : (es : List Extent) (b : Brought) (s : State) → Named es s → value_in (trimmed (extents_after es s b)) (state_after es s b) ≡ value_of b
-value-put es (Long t) Fresh n =
-    let here = extent_at-end es (new_extent t) in
-    let live : is_live (es ++ new_extent t ∷ []) (length es) ≡ true = ap has_text here in
-    ap (λ e. value.Of (unwrap_or e.text [])) (trimmed-extent_at (es ++ new_extent t ∷ []) (length es) live ∙ here)
-value-put es (Long t) (In j) n =
+pub value-put : (es : List Extent) (b : Incoming) (s : EntryState) → Named es s → value_in (trimmed (extents_after es s b)) (state_after es s b) ≡ value_of b
+value-put es (Outer t) Fresh n =
+    let here = extent_at-end es (extent_for (text_size t) t) in
+    let live : is_live (es ++ extent_for (text_size t) t ∷ []) (length es) ≡ true = ap has_text here in
+    ap (λ e. value.Of (unwrap_or e.text [])) (trimmed-extent_at (es ++ extent_for (text_size t) t ∷ []) (length es) live ∙ here)
+value-put es (Outer t) (InArena j) n =
     elim (cases_Bool (fits_in es j t)) [
       | inl t_is ↦
           let here = extent_at-with_text es j (Some t) (live-below es j n) in
@@ -277,8 +253,8 @@ value-put es b s n = refl
 pub disjoint_at : (l : Layout) (i j : ℕ) → IsSound l → i < length l.states → j < length l.states → j ≢ i → Disjoint (state_at l.states i) (state_at l.states j)
 disjoint_at l i j sound hi hj ne = by_states (state_at l.states i) (state_at l.states j) refl refl
   where
-    by_states : (s t : State) → state_at l.states i ≡ s → state_at l.states j ≡ t → Disjoint s t
-    by_states (In k) (In n) e f = λ same.
+    by_states : (s t : EntryState) → state_at l.states i ≡ s → state_at l.states j ≡ t → Disjoint s t
+    by_states (InArena k) (InArena n) e f = λ same.
         let yes_i : is_in k (state_at l.states i) ≡ true = ap (is_in k) e ∙ eq-eqb k k refl in
         let yes_j : is_in k (state_at l.states j) ≡ true = ap (is_in k) f ∙ eq-eqb n k same in
         let two = counts_two (is_in k) l.states i j Fresh Fresh hi hj (λ q. ne (sym q)) refl yes_i yes_j in
@@ -289,12 +265,12 @@ disjoint_at l i j sound hi hj ne = by_states (state_at l.states i) (state_at l.s
 
 pub values-within : (l : Layout) (i : ℕ) (v : Value) → IsSound l → i < length l.states → values_of (put_within l i v) ≡ set (values_of l) i v
 values-within l i v sound h =
-    let b = brought v in
+    let b = incoming v in
     let s = state_at l.states i in
     let after = trimmed (extents_after l.extents s b) in
     map-set_but (value_in l.extents) (value_in after) l.states i (state_after l.extents s b) Fresh
     (λ j hj ne. value-other l.extents s b (state_at l.states j) (named_at l j sound hj) (disjoint_at l i j sound h hj ne))
-    ∙ ap (set (values_of l) i) (value-put l.extents b s (named_at l i sound h) ∙ value_of-brought v)
+    ∙ ap (set (values_of l) i) (value-put l.extents b s (named_at l i sound h) ∙ value_of-incoming v)
 
 pub values-put : (l : Layout) (i : ℕ) (v : Value) → IsSound l → values_of (put l i v) ≡ set (values_of l) i v
 values-put l i v sound =

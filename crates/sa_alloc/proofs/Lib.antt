@@ -1,6 +1,7 @@
 pub mod LayoutLemmas
-pub mod TieLemmas
-pub mod StepLemmas
+pub mod DecodedLemmas
+pub mod ConsistencyLemmas
+pub mod TransitionLemmas
 pub mod StoreLemmas
 pub mod WriteLemmas
 pub mod ReadLemmas

@@ -1,5 +1,5 @@
 -- What a plan reserves is enough for its puts.
-use Rattle.std.proofs.Common.{◌≡◌, ◌≤◌, ◌<◌, ◌≢◌, ◌+◌, nat_le, nat_lt, max, ◌/◌, ℕ, zero, suc, true, false, List, [], ◌∷◌, ◌++◌, length, map, take, Option, refl, sym, ap, ◌∙◌, subst, inl, inr, arith, get_or, get_or-set_other, if◌then◌else◌}
+use Rattle.std.proofs.Common.{◌≡◌, ◌≤◌, ◌<◌, ◌≢◌, ◌+◌, nat_le, nat_lt, max, ◌/◌, ℕ, zero, suc, true, false, List, [], ◌∷◌, ◌++◌, length, map, take, refl, sym, ap, ◌∙◌, subst, inl, inr, arith, get_or, get_or-set_other, if◌then◌else◌}
 use Rattle.std.specs.List.{AllByRecursion, IsDistinct, zip, list_any, sum_by}
 use Rattle.std.proofs.lemmas.Bool.{cases_Bool, leb-true}
 use Rattle.std.proofs.lemmas.Bool.Decides.{eqb_tells}
@@ -11,14 +11,16 @@ use Rattle.sa_entry.specs.Slots.{Slot, Fresh, InArena, form_of}
 use Rattle.sa_arena.specs.Extents.{Extent, Region, number_at, cursor_of}
 use Rattle.sa_arena.specs.Images.{grown_size}
 use Rattle.sa_alloc.specs.declared.needs.Needs.{Needs}
+use Rattle.sa_alloc.specs.declared.store.Store.TheInside.{Inside}
 use Rattle.sa_alloc.specs.Layouts as layouts
-use Rattle.sa_alloc.specs.Layouts.{Layout, State, Brought, Long, brought, state_at, fits_in, put}
+use Rattle.sa_alloc.specs.Layouts.{Layout, EntryState, Incoming, Outer, incoming, state_at, fits_in, put}
 use Rattle.sa_alloc.specs.Needs.{bytes_appended, keys_taken, bytes_needed, keys_needed, needs_of, put_needs, bytes_most, keys_most}
-use Rattle.sa_alloc.specs.StoreValues.{StoreValue, region_of}
+use Rattle.sa_alloc.specs.StoreValues.{StoreValue, Contents, region_of}
 use Rattle.sa_alloc.specs.Stores.{AreDistinct, HasRoom, puts_from}
-use Rattle.sa_alloc.specs.Ties.{state_of, slot_at}
-use Rattle.sa_alloc.proofs.TieLemmas.{state_at-from}
-use Rattle.sa_alloc.proofs.StoreLemmas.{stored}
+use Rattle.sa_alloc.specs.Transitions.{Storage}
+use Rattle.sa_alloc.specs.Consistency.{state_of, slot_at, layout_from}
+use Rattle.sa_alloc.proofs.ConsistencyLemmas.{state_at-from}
+use Rattle.sa_alloc.proofs.StoreLemmas.{parts, store_value}
 
 -- puts of different entries
 
@@ -30,33 +32,33 @@ AllApart [] = Unit {0}
 AllApart (p ∷ ps) = AwayFrom p.0 ps × AllApart ps
 
 -- what a put needs, by the state of its entry, is no more than this
-pub record NeedsMost (s : State) (b : Brought) (n : Needs) : Type 0 where
+pub record NeedsMost (s : EntryState) (b : Incoming) (n : Needs) : Type 0 where
   pub bytes : bytes_appended s b ≡ n.bytes
   pub keys : (es : List Extent) → keys_taken es s b ≤ n.keys
 
-bytes-form : (es : List Extent) (ks : List (Option (List ℕ))) (b : Brought) (s : Slot) → bytes_appended (state_of es ks s) b ≡ (needs_of (form_of s) b).bytes
-bytes-form es ks (Long text) Fresh = refl
-bytes-form es ks (Long text) s = refl
-bytes-form es ks b s = refl
+bytes-form : (t : Storage) (b : Incoming) (s : Slot) → bytes_appended (state_of t s) b ≡ (needs_of (form_of s) b).bytes
+bytes-form t (Outer text) Fresh = refl
+bytes-form t (Outer text) s = refl
+bytes-form t b s = refl
 
-keys-form : (es ds : List Extent) (ks : List (Option (List ℕ))) (b : Brought) (s : Slot) → keys_taken ds (state_of es ks s) b ≤ (needs_of (form_of s) b).keys
-keys-form es ds ks (Long text) (InArena at size long) = elim (cases_Bool (fits_in ds (number_at es at) text)) [ inl t_is ↦ rw t_is (omega arith) | inr f_is ↦ rw f_is (omega arith) ]
-keys-form es ds ks (Long text) s = omega arith
-keys-form es ds ks b s = omega arith
+keys-form : (t : Storage) (es : List Extent) (b : Incoming) (s : Slot) → keys_taken es (state_of t s) b ≤ (needs_of (form_of s) b).keys
+keys-form t es (Outer text) (InArena at size long) = elim (cases_Bool (fits_in es (number_at t.extents at) text)) [ inl t_is ↦ rw t_is (omega arith) | inr f_is ↦ rw f_is (omega arith) ]
+keys-form t es (Outer text) s = omega arith
+keys-form t es b s = omega arith
 
 state-other : (l : Layout) (i : ℕ) (v : Value) (q : ℕ) → q ≢ i → state_at (put l i v).states q ≡ state_at l.states q
 state-other l i v q ne =
     elim (cases_Bool (nat_lt i (length l.states))) [
-      | inl t_is ↦ rw t_is (get_or-set_other l.states i q (layouts.state_after l.extents (state_at l.states i) (brought v)) layouts.Fresh ne)
+      | inl t_is ↦ rw t_is (get_or-set_other l.states i q (layouts.state_after l.extents (state_at l.states i) (incoming v)) layouts.Fresh ne)
       | inr f_is ↦ rw f_is refl
     ]
 
-abbrev pub AllNeedMost : List State → (ℕ × Value → Needs) → List (ℕ × Value) → Type 0
-AllNeedMost states n ps = AllByRecursion (λ (p : ℕ × Value). NeedsMost (state_at states p.0) (brought p.1) (n p)) ps
+abbrev pub AllNeedMost : List EntryState → (ℕ × Value → Needs) → List (ℕ × Value) → Type 0
+AllNeedMost states n ps = AllByRecursion (λ (p : ℕ × Value). NeedsMost (state_at states p.0) (incoming p.1) (n p)) ps
 
 need-kept : (l : Layout) (i : ℕ) (v : Value) (n : ℕ × Value → Needs) (ps : List (ℕ × Value)) → AwayFrom i ps → AllNeedMost l.states n ps → AllNeedMost (put l i v).states n ps
 need-kept l i v n [] away all = tt
-need-kept l i v n (p ∷ ps) away all = (subst (λ s. NeedsMost s (brought p.1) (n p)) (sym (state-other l i v p.0 away.0)) all.0, need-kept l i v n ps away.1 all.1)
+need-kept l i v n (p ∷ ps) away all = (subst (λ s. NeedsMost s (incoming p.1) (n p)) (sym (state-other l i v p.0 away.0)) all.0, need-kept l i v n ps away.1 all.1)
 
 pub needs-all : (l : Layout) (n : ℕ × Value → Needs) (ps : List (ℕ × Value)) → AllApart ps → AllNeedMost l.states n ps → (bytes_needed l ps ≡ sum_by (λ p. (n p).bytes) ps) × (keys_needed l ps ≤ sum_by (λ p. (n p).keys) ps)
 needs-all l n [] apart all = (refl, omega arith)
@@ -70,19 +72,19 @@ needs-all l n (p ∷ ps) apart all =
     let rest_keys = rest.1 in
     (omega arith, omega arith)
 
-slots-need : (lengths : List ℕ) (es : List Extent) (ks : List (Option (List ℕ))) (ss : List Slot) (ps : List (ℕ × Value)) → AllNeedMost (map (state_of es ks) ss) (put_needs ss) ps
-slots-need lengths es ks ss [] = tt
-slots-need lengths es ks ss (p ∷ ps) =
-    let it : NeedsMost (state_of es ks (slot_at ss p.0)) (brought p.1) (put_needs ss p) = record { bytes = bytes-form es ks (brought p.1) (slot_at ss p.0); keys = λ ds. keys-form es ds ks (brought p.1) (slot_at ss p.0) } in
-    (subst (λ s. NeedsMost s (brought p.1) (put_needs ss p)) (sym (state_at-from es ks ss p.0)) it, slots-need lengths es ks ss ps)
+slots-need : (t : Storage) (ss : List Slot) (ps : List (ℕ × Value)) → AllNeedMost (map (state_of t) ss) (put_needs ss) ps
+slots-need t ss [] = tt
+slots-need t ss (p ∷ ps) =
+    let it : NeedsMost (state_of t (slot_at ss p.0)) (incoming p.1) (put_needs ss p) = record { bytes = bytes-form t (incoming p.1) (slot_at ss p.0); keys = λ es. keys-form t es (incoming p.1) (slot_at ss p.0) } in
+    (subst (λ s. NeedsMost s (incoming p.1) (put_needs ss p)) (sym (state_at-from t ss p.0)) it, slots-need t ss ps)
 
 -- what the slots of a store tell of the needs of puts
-pub slots-tell : (lengths : List ℕ) (es : List Extent) (ks : List (Option (List ℕ))) (ss : List Slot) (size spare : ℕ) (now : StoreValue) (ps : List (ℕ × Value)) → stored lengths es ks ss size spare ≡ now → AllApart ps
-    → (bytes_needed now.contents.layout ps ≡ bytes_most now.contents.slots ps) × (keys_needed now.contents.layout ps ≤ keys_most now.contents.slots ps)
-slots-tell lengths es ks ss size spare now ps e apart =
-    let old = stored lengths es ks ss size spare in
-    subst (λ (n : StoreValue). (bytes_needed n.contents.layout ps ≡ bytes_most n.contents.slots ps) × (keys_needed n.contents.layout ps ≤ keys_most n.contents.slots ps)) e
-    (needs-all old.contents.layout (put_needs ss) ps apart (slots-need lengths es ks ss ps))
+abbrev pub TellNeeds : Contents → List (ℕ × Value) → Type 0
+TellNeeds c ps = (bytes_needed c.layout ps ≡ bytes_most c.slots ps) × (keys_needed c.layout ps ≤ keys_most c.slots ps)
+
+pub slots-tell : (s : Inside) (now : StoreValue) (ps : List (ℕ × Value)) → store_value s ≡ now → AllApart ps → TellNeeds now.contents ps
+slots-tell s now ps e apart =
+    subst (λ (n : StoreValue). TellNeeds n.contents ps) e (needs-all (layout_from s.lengths.items (parts s) s.entries.items) (put_needs s.entries.items) ps apart (slots-need (parts s) s.entries.items ps))
 
 -- the puts of a plan
 
@@ -152,7 +154,7 @@ pub record IsReserved (old new : StoreValue) (puts : List (ℕ × Value)) : Type
   pub spare : keys_most old.contents.slots puts ≤ old.room.spare → new.room.spare ≡ old.room.spare
 
 pub reserved : (old new : StoreValue) (r : Region) (puts : List (ℕ × Value)) (bytes keys : ℕ)
-    → (bytes_needed old.contents.layout puts ≡ bytes_most old.contents.slots puts) × (keys_needed old.contents.layout puts ≤ keys_most old.contents.slots puts)
+    → TellNeeds old.contents puts
     → bytes ≡ bytes_most old.contents.slots puts → keys ≡ keys_most old.contents.slots puts → new.contents ≡ old.contents
     → cursor_of r.extents ≡ cursor_of old.contents.layout.extents → r.size ≡ old.room.size → new.room.size ≡ grown_size r bytes
     → keys ≤ new.room.spare → (keys ≤ old.room.spare → new.room.spare ≡ old.room.spare) → IsReserved old new puts

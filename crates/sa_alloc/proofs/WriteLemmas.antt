@@ -1,11 +1,12 @@
 -- A plan that is being written, put by put.
-use Rattle.std.proofs.Common.{◌≡◌, ◌≤◌, ◌<◌, ◌+◌, nat_lt, ℕ, List, [], ◌∷◌, length, Some, None, sym, ◌∙◌, subst, inl, inr, arith}
+use Rattle.std.proofs.Common.{◌≡◌, ◌≤◌, ◌<◌, ◌+◌, nat_lt, ℕ, List, [], ◌∷◌, length, Some, None, sym, ◌∙◌, subst, inl, inr, arith, if◌then◌else◌}
 use Rattle.std.specs.List.{AllByRecursion}
 use Rattle.std.proofs.lemmas.Bool.{cases_Bool}
 use Rattle.sa_text.specs.declared.value.Value.{Value}
-use Rattle.sa_arena.specs.Extents.{Extent, cursor_of}
+use Rattle.sa_arena.specs.Extents.{Extent, cursor_of, extent_for}
+use Rattle.sa_text.specs.Texts.{text_size}
 use Rattle.sa_arena.proofs.ExtentLemmas.{cursor-trimmed, cursor-append, cursor-cons, cursor-with_text}
-use Rattle.sa_alloc.specs.Layouts.{Layout, State, Fresh, In, Brought, Long, brought, extents_after, state_at, fits_in, new_extent, put, put_all}
+use Rattle.sa_alloc.specs.Layouts.{Layout, EntryState, Fresh, InArena, Incoming, Outer, incoming, extents_after, state_at, fits_in, put, put_all}
 use Rattle.sa_alloc.specs.Needs.{bytes_appended, keys_taken, bytes_needed, keys_needed}
 use Rattle.sa_alloc.specs.StoreValues.{StoreValue}
 use Rattle.sa_alloc.specs.Stores.{puts_from}
@@ -18,26 +19,22 @@ pub record IsWriting (end : Layout) (size : ℕ) (now : StoreValue) (first : ℕ
   pub keys : keys_needed now.contents.layout (puts_from first left) ≤ now.room.spare
   pub kept : now.room.size ≡ size
 
-pub cursor-after : (es : List Extent) (b : Brought) (s : State) → cursor_of (extents_after es s b) ≤ cursor_of es + bytes_appended s b
-cursor-after es (Long t) Fresh = let a = cursor-append es (new_extent t ∷ []) in let b = cursor-cons (new_extent t) [] in omega arith
-cursor-after es (Long t) (In k) =
-    elim (cases_Bool (fits_in es k t)) [
-      | inl t_is ↦ let a = cursor-with_text es k (Some t) in rw t_is (omega arith)
-      | inr f_is ↦ let a = cursor-with_text es k None in rw f_is (omega arith)
-    ]
-cursor-after es b (In k) = let a = cursor-with_text es k None in omega arith
+pub cursor-after : (es : List Extent) (b : Incoming) (s : EntryState) → cursor_of (extents_after es s b) ≤ cursor_of es + bytes_appended s b
+cursor-after es (Outer t) Fresh = let a = cursor-append es (extent_for (text_size t) t ∷ []) in let b = cursor-cons (extent_for (text_size t) t) [] in omega arith
+cursor-after es (Outer t) (InArena k) = let a = cursor-with_text es k (if fits_in es k t then Some t else None) in omega arith
+cursor-after es b (InArena k) = let a = cursor-with_text es k None in omega arith
 cursor-after es b s = omega arith
 
-pub cursor-put : (l : Layout) (i : ℕ) (v : Value) → cursor_of (put l i v).extents ≤ cursor_of l.extents + bytes_appended (state_at l.states i) (brought v)
+pub cursor-put : (l : Layout) (i : ℕ) (v : Value) → cursor_of (put l i v).extents ≤ cursor_of l.extents + bytes_appended (state_at l.states i) (incoming v)
 cursor-put l i v =
-    let t = cursor-trimmed (extents_after l.extents (state_at l.states i) (brought v)) in
-    let a = cursor-after l.extents (brought v) (state_at l.states i) in
+    let t = cursor-trimmed (extents_after l.extents (state_at l.states i) (incoming v)) in
+    let a = cursor-after l.extents (incoming v) (state_at l.states i) in
     elim (cases_Bool (nat_lt i (length l.states))) [ inl t_is ↦ rw t_is (omega arith) | inr f_is ↦ rw f_is (omega arith) ]
 
 -- one put more
 pub writes-on : (end : Layout) (size : ℕ) (now after : StoreValue) (first : ℕ) (p : ℕ × Value) (ps : List (ℕ × Value)) → IsWriting end size now first (p ∷ ps)
     → after.contents.layout ≡ put now.contents.layout (first + p.0) p.1 → length after.contents.slots ≡ length now.contents.slots → after.room.size ≡ now.room.size
-    → now.room.spare ≤ after.room.spare + keys_taken now.contents.layout.extents (state_at now.contents.layout.states (first + p.0)) (brought p.1)
+    → now.room.spare ≤ after.room.spare + keys_taken now.contents.layout.extents (state_at now.contents.layout.states (first + p.0)) (incoming p.1)
     → IsWriting end size after first ps
 writes-on end size now after first p ps w layout slots same spare =
     let next = put now.contents.layout (first + p.0) p.1 in

@@ -1,27 +1,27 @@
 -- The layout of one descriptor: where the text of each entry lies. Source: NEP 55; the table of transitions is this project's own.
-use Rattle.std.specs.Prelude.{◌≡◌, ◌≤◌, ℕ, ◌==◌, nat_lt, nat_le, Bool, true, false, if◌then◌else◌, List, [], ◌∷◌, ◌++◌, length, map, take, sum, count_by, replicate, slice_index_or, slice_set, Some, None, option_map, unwrap_or, encode_utf8_all}
+use Rattle.std.specs.Prelude.{◌≡◌, ◌≤◌, ℕ, ◌==◌, nat_lt, nat_le, Bool, true, false, if◌then◌else◌, List, [], ◌∷◌, ◌++◌, length, map, take, sum, count_by, replicate, slice_index_or, slice_set, Some, None, option_map, encode_utf8_all}
 use Rattle.sa_base.specs.declared.stats.Stats.{Stats}
 use Rattle.sa_text.specs.Texts.{text_size}
 use Rattle.sa_text.specs.declared.value.Value.{Value}
 use Rattle.sa_text.specs.declared.value.Value.TheVariants as value
 use Rattle.sa_entry.specs.Slots.{Slot, spelling}
 use Rattle.sa_entry.specs.Slots as slot
-use Rattle.sa_arena.specs.Extents.{Extent, extent_at, is_live, offset_of, with_text, trimmed, cursor_of, live_bytes, dead_bytes}
+use Rattle.sa_arena.specs.Extents.{Extent, text_bytes, extent_for, extent_at, is_live, offset_of, with_text, trimmed, cursor_of, live_bytes, dead_bytes}
 use Rattle.sa_arena.specs.Images.{image_of}
 
 -- The state of an entry: fresh; a text inside its slot; a text in the extent of this number; a text outside the arena; or missing.
-pub data State : Type 0 where
-  Fresh : State
-  Inline : List ℕ → State
-  In : ℕ → State
-  Out : List ℕ → State
-  Miss : State
+pub data EntryState : Type 0 where
+  Fresh : EntryState
+  Inline : List ℕ → EntryState
+  InArena : ℕ → EntryState
+  Outside : List ℕ → EntryState
+  Missing : EntryState
 
 -- A layout: the lengths of the arrays, the extents in order of creation with the code points of their texts, and the states of the entries, array by array.
 pub record Layout : Type 0 where
   pub lengths : List ℕ
   pub extents : List Extent
-  pub states : List State
+  pub states : List EntryState
 
 -- the layout before the first put
 abbrev pub opening_layout : List ℕ → Layout
@@ -32,48 +32,44 @@ abbrev pub first_entry : List ℕ → ℕ → ℕ
 first_entry lengths array = sum (take array lengths)
 
 -- the state of an entry; fresh where there is none
-abbrev pub state_at : List State → ℕ → State
+abbrev pub state_at : List EntryState → ℕ → EntryState
 state_at states entry = slice_index_or states entry Fresh
 
--- what a put brings: a missing value, a text that fits into a slot, or a longer one
-pub data Brought : Type 0 where
-  Nothing : Brought
-  Short : List ℕ → Brought
-  Long : List ℕ → Brought
+-- what comes in by a put: a missing value, a text that fits into a slot, or a longer one
+pub data Incoming : Type 0 where
+  Nothing : Incoming
+  Short : List ℕ → Incoming
+  Outer : List ℕ → Incoming
 
-abbrev pub brought : Value → Brought
-brought value.Missing = Nothing
-brought (value.Of text) = if nat_lt (text_size text) slot.least_outer then Short text else Long text
+abbrev pub incoming : Value → Incoming
+incoming value.Missing = Nothing
+incoming (value.Of text) = if nat_lt (text_size text) slot.least_outer then Short text else Outer text
 
 -- the text fits into the extent of a number
 abbrev pub fits_in : List Extent → ℕ → List ℕ → Bool
 fits_in extents k text = nat_le (text_size text) (extent_at extents k).capacity
 
--- a new extent of a text, with room for it alone
-abbrev pub new_extent : List ℕ → Extent
-new_extent text = record { capacity = text_size text; text = Some text }
-
--- The extents after a put, by the old state of its entry and what it brings: a fresh entry's long text is appended, a long text that fits takes the place of its entry's text, and the extent of an entry that leaves it dies.
-abbrev pub extents_after : List Extent → State → Brought → List Extent
-extents_after extents Fresh (Long text) = extents ++ new_extent text ∷ []
-extents_after extents (In k) (Long text) = if fits_in extents k text then with_text extents k (Some text) else with_text extents k None
-extents_after extents (In k) new = with_text extents k None
+-- The extents after a put, by the old state of its entry and what comes in: a fresh entry's long text is appended, a long text that fits takes the place of its entry's text, and the extent of an entry that leaves it dies.
+abbrev pub extents_after : List Extent → EntryState → Incoming → List Extent
+extents_after extents Fresh (Outer text) = extents ++ extent_for (text_size text) text ∷ []
+extents_after extents (InArena k) (Outer text) = with_text extents k (if fits_in extents k text then Some text else None)
+extents_after extents (InArena k) new = with_text extents k None
 extents_after extents old new = extents
 
 -- the state of the entry after it
-abbrev pub state_after : List Extent → State → Brought → State
-state_after extents old Nothing = Miss
+abbrev pub state_after : List Extent → EntryState → Incoming → EntryState
+state_after extents old Nothing = Missing
 state_after extents old (Short text) = Inline text
-state_after extents Fresh (Long text) = In (length extents)
-state_after extents (In k) (Long text) = if fits_in extents k text then In k else Out text
-state_after extents old (Long text) = Out text
+state_after extents Fresh (Outer text) = InArena (length extents)
+state_after extents (InArena k) (Outer text) = if fits_in extents k text then InArena k else Outside text
+state_after extents old (Outer text) = Outside text
 
 -- the put of a value into an entry that exists, in its two parts: the first changes the extents by the table, the second removes the dead ones at the end
 abbrev pub put_within : Layout → ℕ → Value → Layout
 put_within l entry v = record {
   lengths = l.lengths;
-  extents = trimmed (extents_after l.extents (state_at l.states entry) (brought v));
-  states = slice_set l.states entry (state_after l.extents (state_at l.states entry) (brought v));
+  extents = trimmed (extents_after l.extents (state_at l.states entry) (incoming v));
+  states = slice_set l.states entry (state_after l.extents (state_at l.states entry) (incoming v));
 }
 
 -- The put of a value into an entry. Where there is no such entry nothing changes.
@@ -85,20 +81,17 @@ abbrev pub put_all : Layout → List (ℕ × Value) → Layout
 put_all l [] = l
 put_all l (p ∷ ps) = put_all (put l p.0 p.1) ps
 
--- the text of an extent; the empty one where it is dead
-abbrev pub extent_text : Extent → List ℕ
-extent_text e = unwrap_or e.text []
-
+-- the text of the extent of a number; the empty one where it is dead
 abbrev pub text_in : List Extent → ℕ → List ℕ
-text_in extents k = extent_text (extent_at extents k)
+text_in extents k = text_bytes (extent_at extents k)
 
 -- the value that an entry of this state holds: a fresh one reads as the empty text
-abbrev pub value_in : List Extent → State → Value
+abbrev pub value_in : List Extent → EntryState → Value
 value_in extents Fresh = value.Of []
 value_in extents (Inline text) = value.Of text
-value_in extents (In k) = value.Of (text_in extents k)
-value_in extents (Out text) = value.Of text
-value_in extents Miss = value.Missing
+value_in extents (InArena k) = value.Of (text_in extents k)
+value_in extents (Outside text) = value.Of text
+value_in extents Missing = value.Missing
 
 abbrev pub value_at : Layout → ℕ → Value
 value_at l entry = value_in l.extents (state_at l.states entry)
@@ -108,12 +101,12 @@ abbrev pub values_of : Layout → List Value
 values_of l = map (value_in l.extents) l.states
 
 -- the entry names the extent of a number
-abbrev pub is_in : ℕ → State → Bool
-is_in k (In j) = j == k
+abbrev pub is_in : ℕ → EntryState → Bool
+is_in k (InArena j) = j == k
 is_in k other = false
 
-abbrev pub is_out : State → Bool
-is_out (Out text) = true
+abbrev pub is_out : EntryState → Bool
+is_out (Outside text) = true
 is_out other = false
 
 abbrev pub one_if : Bool → ℕ
@@ -138,12 +131,12 @@ abbrev pub arena_image : Layout → List ℕ
 arena_image l = image_of (map encoded l.extents)
 
 -- what the slot of an entry says, with 0 in place of the key of an outside text; the prefix is long by the extent's capacity
-abbrev pub slot_of : List Extent → State → Slot
+abbrev pub slot_of : List Extent → EntryState → Slot
 slot_of extents Fresh = slot.Fresh
 slot_of extents (Inline text) = slot.Inline (encode_utf8_all text)
-slot_of extents (In k) = slot.InArena (offset_of extents k) (text_size (text_in extents k)) (nat_lt slot.most_short (extent_at extents k).capacity)
-slot_of extents (Out text) = slot.Outside 0 (text_size text)
-slot_of extents Miss = slot.Missing
+slot_of extents (InArena k) = slot.InArena (offset_of extents k) (text_size (text_in extents k)) (nat_lt slot.most_short (extent_at extents k).capacity)
+slot_of extents (Outside text) = slot.Outside 0 (text_size text)
+slot_of extents Missing = slot.Missing
 
 -- the sixteen bytes of an entry, with zeros in place of a key
 abbrev pub entry_image : Layout → ℕ → List ℕ

@@ -1,12 +1,12 @@
 pub use Rattle.sa_arena.specs.Extents
 pub use Rattle.sa_arena.specs.Images
 pub use Rattle.sa_entry.specs.Slots
+pub mod Consistency
 pub mod Copies
 pub mod Laws
 pub mod Layouts
 pub mod Needs
 pub mod PlanValues
-pub mod Steps
 pub mod StoreValues
 pub mod Stores
-pub mod Ties
+pub mod Transitions

@@ -5,7 +5,8 @@ use Rattle.sa_entry.specs.Slots as slot
 use Rattle.sa_arena.specs.Extents.{Region}
 use Rattle.sa_outside.specs.Keyed.{is_used, used_count}
 use Rattle.sa_alloc.specs.Layouts.{Layout, IsSound, opening_layout, one_if}
-use Rattle.sa_alloc.specs.Ties.{IsSmall, is_at_key, is_outside, state_of}
+use Rattle.sa_alloc.specs.Transitions.{storage}
+use Rattle.sa_alloc.specs.Consistency.{IsSmall, is_at_key, is_outside, state_of}
 
 -- what a store holds: its layout, the slot of each entry, and the bytes or nothing at each key of the texts outside
 pub record Contents : Type 0 where
@@ -38,4 +39,4 @@ pub record IsSoundStore (c : Contents) : Type 0 where
   pub small : IsSmall c.layout.lengths
   pub keyed : (key : ℕ) → count_by (is_at_key key) c.slots ≡ one_if (is_used c.texts key)
   pub outside : count_by is_outside c.slots ≡ used_count c.texts
-  pub states : c.layout.states ≡ map (state_of c.layout.extents c.texts) c.slots
+  pub states : c.layout.states ≡ map (state_of (storage c.layout.extents c.texts)) c.slots

@@ -1,7 +1,7 @@
 ghost use Rattle.std.specs.Prelude.{◌≡◌, ◌≤◌, ◌+◌, length, zip, IfOk};
 ghost use Rattle.sa_text.specs.Values.{stretched};
 ghost use Rattle.sa_entry.specs.Slots.{most_outer};
-ghost use Rattle.sa_alloc.specs.Layouts.{brought};
+ghost use Rattle.sa_alloc.specs.Layouts.{incoming};
 ghost use Rattle.sa_alloc.specs.Needs.{needs_of, outer_needs};
 
 use sa_arena::prefix_len;
@@ -23,7 +23,7 @@ pub struct Needs {
 /// What a put of this value needs at most, where its entry has this form.
 #[inline]
 pub fn needs_of(form: Form, value: &Value) -> Needs
-    ensures needs { result ≡ needs_of form (brought value.now) }
+    ensures needs { result ≡ needs_of form (incoming value.now) }
     ensures most { (result.bytes ≤ 8 + most_outer) × (result.keys ≤ 1) }
 {
     match value {

@@ -5,11 +5,11 @@ ghost use Rattle.sa_text.specs.Values.{stretched, value_weight, weight_of};
 ghost use Rattle.sa_entry.specs.Slots.{Fresh, slot_size};
 ghost use Rattle.sa_arena.specs.Extents.{cursor_of};
 ghost use Rattle.sa_arena.specs.Images.{grown_size};
-ghost use Rattle.sa_alloc.specs.Layouts.{brought, state_at, put, put_all, value_at, stats_of, entry_image, arena_image, first_entry};
+ghost use Rattle.sa_alloc.specs.Layouts.{incoming, state_at, put, put_all, value_at, stats_of, entry_image, arena_image, first_entry};
 ghost use Rattle.sa_alloc.specs.Needs.{bytes_appended, keys_taken, bytes_needed, bytes_most, keys_most};
 ghost use Rattle.sa_alloc.specs.StoreValues.{IsSoundStore, opening_contents, region_of};
 ghost use Rattle.sa_alloc.specs.Stores.{IsPlace, IsPlan, HasRoom, AreDistinct, Shows, array_values, puts_from, puts_of};
-ghost use Rattle.sa_alloc.specs.Ties.{IsSmall, IsSized, without_key};
+ghost use Rattle.sa_alloc.specs.Consistency.{IsSmall, IsSized, without_key};
 
 use crate::needs::{copies, needs_of};
 use crate::plan::Plan;
@@ -39,16 +39,17 @@ pub struct Store {
 
 impl Model for Store {
     ghost use Rattle.sa_alloc.specs.StoreValues.{StoreValue};
-    ghost use Rattle.sa_alloc.specs.Ties.{layout_from, IsStore};
+    ghost use Rattle.sa_alloc.specs.Transitions.{storage};
+    ghost use Rattle.sa_alloc.specs.Consistency.{layout_from, IsStore};
 
     ghost Value = { StoreValue };
 
     ghost view = { λ s. record {
-      contents = record { layout = layout_from s.lengths.items s.arena.extents s.outside.texts s.entries.items; slots = s.entries.items; texts = s.outside.texts };
+      contents = record { layout = layout_from s.lengths.items (storage s.arena.extents s.outside.texts) s.entries.items; slots = s.entries.items; texts = s.outside.texts };
       room = record { size = s.arena.size; spare = s.outside.spare };
     } };
 
-    ghost invariant = { λ s. IsStore s.lengths.items s.starts.items s.arena.extents s.outside.texts s.entries.items };
+    ghost invariant = { λ s. IsStore s.lengths.items s.starts.items (storage s.arena.extents s.outside.texts) s.entries.items };
 }
 
 impl Store {
@@ -251,12 +252,12 @@ impl Store {
     #[inline]
     fn put(&mut self, entry: usize, value: Value)
         requires entry { entry < length self.old.contents.slots }
-        requires bytes { cursor_of self.old.contents.layout.extents + bytes_appended (state_at self.old.contents.layout.states entry) (brought value) ≤ self.old.room.size }
-        requires keys { keys_taken self.old.contents.layout.extents (state_at self.old.contents.layout.states entry) (brought value) ≤ self.old.room.spare }
+        requires bytes { cursor_of self.old.contents.layout.extents + bytes_appended (state_at self.old.contents.layout.states entry) (incoming value) ≤ self.old.room.size }
+        requires keys { keys_taken self.old.contents.layout.extents (state_at self.old.contents.layout.states entry) (incoming value) ≤ self.old.room.spare }
         ensures layout { self.new.contents.layout ≡ put self.old.contents.layout entry value }
         ensures slots { length self.new.contents.slots ≡ length self.old.contents.slots }
         ensures size { self.new.room.size ≡ self.old.room.size }
-        ensures spare { self.old.room.spare ≤ self.new.room.spare + keys_taken self.old.contents.layout.extents (state_at self.old.contents.layout.states entry) (brought value) }
+        ensures spare { self.old.room.spare ≤ self.new.room.spare + keys_taken self.old.contents.layout.extents (state_at self.old.contents.layout.states entry) (incoming value) }
     {
         step(&mut self.arena, &mut self.outside, &mut self.entries[entry], value);
     }

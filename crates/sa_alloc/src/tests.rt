@@ -67,6 +67,7 @@ fn set(
     first: u32,
     texts: &[&[u8]],
 ) -> Result<(), Fail> {
+    assert!(rt; texts.len() <= 64);
     let mut values = Vec::new(alloc);
     for text in texts {
         values.push(Value::Of(Text::from_bytes(alloc, text)?))?;

@@ -1,9 +1,9 @@
 ghost use Rattle.std.specs.Prelude.{◌≡◌, ◌+◌, ◌≤◌, length};
 ghost use Rattle.sa_entry.specs.Slots.{form_of, IsOuterSize};
 ghost use Rattle.sa_arena.specs.Extents.{cursor_of};
-ghost use Rattle.sa_alloc.specs.Layouts.{brought};
+ghost use Rattle.sa_alloc.specs.Layouts.{incoming};
 ghost use Rattle.sa_alloc.specs.Needs.{bytes_appended, keys_taken, outer_bytes, outer_keys};
-ghost use Rattle.sa_alloc.specs.Steps.{Spelled, Stands, Releases, Takes, Steps, state_by};
+ghost use Rattle.sa_alloc.specs.Transitions.{Spelled, IsPresent, ReleasesText, TakesText, StepsStore, state_by, storage};
 
 use sa_arena::Arena;
 use sa_bytes::SharedBytes;
@@ -21,13 +21,13 @@ const MOST_SHORT: u64 = 255;
 /// a plan took it.
 #[inline]
 pub fn step(arena: &mut Arena, outside: &mut Outside, slot: &mut Entry, value: Value)
-    requires stands { Stands arena.old.extents outside.old.texts (form_of slot.old) }
-    requires bytes { cursor_of arena.old.extents + bytes_appended (state_by arena.old.extents (form_of slot.old)) (brought value) ≤ arena.old.size }
-    requires keys { keys_taken arena.old.extents (state_by arena.old.extents (form_of slot.old)) (brought value) ≤ outside.old.spare }
-    ensures steps { Steps arena.old.extents outside.old.texts (form_of slot.old) (brought value) arena.new.extents outside.new.texts slot.new }
+    requires present { IsPresent (storage arena.old.extents outside.old.texts) (form_of slot.old) }
+    requires bytes { cursor_of arena.old.extents + bytes_appended (state_by arena.old.extents (form_of slot.old)) (incoming value) ≤ arena.old.size }
+    requires keys { keys_taken arena.old.extents (state_by arena.old.extents (form_of slot.old)) (incoming value) ≤ outside.old.spare }
+    ensures steps { StepsStore (storage arena.old.extents outside.old.texts) (form_of slot.old) (incoming value) (storage arena.new.extents outside.new.texts) slot.new }
     ensures spelled { Spelled value }
     ensures size { arena.new.size ≡ arena.old.size }
-    ensures spare { outside.old.spare ≤ outside.new.spare + keys_taken arena.old.extents (state_by arena.old.extents (form_of slot.old)) (brought value) }
+    ensures spare { outside.old.spare ≤ outside.new.spare + keys_taken arena.old.extents (state_by arena.old.extents (form_of slot.old)) (incoming value) }
 {
     let old = slot.form();
     match value {
@@ -50,8 +50,8 @@ pub fn step(arena: &mut Arena, outside: &mut Outside, slot: &mut Entry, value: V
 /// Gives up what an entry of this form holds: its extent dies, or its key is freed.
 #[inline]
 fn release(arena: &mut Arena, outside: &mut Outside, old: Form)
-    requires { Stands arena.old.extents outside.old.texts old }
-    ensures releases { Releases arena.old.extents outside.old.texts old arena.new.extents outside.new.texts }
+    requires { IsPresent (storage arena.old.extents outside.old.texts) old }
+    ensures releases { ReleasesText (storage arena.old.extents outside.old.texts) old (storage arena.new.extents outside.new.texts) }
     ensures size { arena.new.size ≡ arena.old.size }
     ensures spare { outside.old.spare ≤ outside.new.spare }
 {
@@ -69,11 +69,11 @@ fn release(arena: &mut Arena, outside: &mut Outside, old: Form)
 /// Takes in a text that does not fit into a slot: into a new extent for a fresh entry, into the
 /// entry's own extent where it fits there, else outside.
 fn take_in(arena: &mut Arena, outside: &mut Outside, old: Form, bytes: SharedBytes) -> Entry
-    requires stands { Stands arena.old.extents outside.old.texts old }
+    requires present { IsPresent (storage arena.old.extents outside.old.texts) old }
     requires size { IsOuterSize (length bytes) }
     requires bytes { cursor_of arena.old.extents + outer_bytes (state_by arena.old.extents old) (length bytes) ≤ arena.old.size }
     requires keys { outer_keys arena.old.extents (state_by arena.old.extents old) (length bytes) ≤ outside.old.spare }
-    ensures takes { Takes arena.old.extents outside.old.texts old bytes arena.new.extents outside.new.texts result }
+    ensures takes { TakesText (storage arena.old.extents outside.old.texts) old bytes (storage arena.new.extents outside.new.texts) result }
     ensures size { arena.new.size ≡ arena.old.size }
     ensures spare { outside.old.spare ≤ outside.new.spare + outer_keys arena.old.extents (state_by arena.old.extents old) (length bytes) }
 {

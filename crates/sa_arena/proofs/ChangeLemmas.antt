@@ -45,8 +45,8 @@ after_kill {r} {t} {b} {c} {l} {p} {at} {k} h f start capacity count b' t' c' p'
 
 pub after_append : {r : Region} {t : List Member} {b : List ℕ} {c l p : ℕ} → Holds r t b c l p → (prefix : ℕ) (u b' : List ℕ) (t' : List Member) (p' : ℕ) →
     prefix ≡ prefix_size (length u) → IsTextSize (length u) → cursor_of r.extents + (prefix_size (length u) + length u) ≤ r.size →
-    b' ≡ written b c (extent_image (extent_for u)) → t' ≡ t ++ (record { at = c + prefix; capacity = length u; size = length u; live = true }) ∷ [] → p' ≡ p →
-    Holds (record { extents = r.extents ++ extent_for u ∷ []; size = r.size }) t' b' (c + prefix + length u) (l + (c + prefix + length u - c)) p'
+    b' ≡ written b c (extent_image (extent_for (length u) u)) → t' ≡ t ++ (record { at = c + prefix; capacity = length u; size = length u; live = true }) ∷ [] → p' ≡ p →
+    Holds (record { extents = r.extents ++ extent_for (length u) u ∷ []; size = r.size }) t' b' (c + prefix + length u) (l + (c + prefix + length u - c)) p'
 after_append {r} {t} {b} {c} {l} {p} h prefix u b' t' p' is size room bytes table places =
     let done = appended h u b' t' (c + prefix + length u) (l + (c + prefix + length u - c)) size room bytes
     (table ∙ ap (λ n. t ++ (record { at = c + n; capacity = length u; size = length u; live = true }) ∷ []) is) (omega arith) (omega arith) in

@@ -90,11 +90,11 @@ text_is {r} {t} {b} h k m live e =
 -- one more extent
 pub appended : {r : Region} {t : List Member} {b : List ℕ} {c l p : ℕ} → Holds r t b c l p →
     (u b' : List ℕ) (t' : List Member) (c' l' : ℕ) → IsTextSize (length u) → cursor_of r.extents + (prefix_size (length u) + length u) ≤ r.size →
-    b' ≡ written b c (extent_image (extent_for u)) → t' ≡ t ++ (record { at = c + prefix_size (length u); capacity = length u; size = length u; live = true }) ∷ [] →
+    b' ≡ written b c (extent_image (extent_for (length u) u)) → t' ≡ t ++ (record { at = c + prefix_size (length u); capacity = length u; size = length u; live = true }) ∷ [] →
     c' ≡ c + (prefix_size (length u) + length u) → l' ≡ l + (prefix_size (length u) + length u) →
-    Holds (record { extents = r.extents ++ extent_for u ∷ []; size = r.size }) t' b' c' l' p
+    Holds (record { extents = r.extents ++ extent_for (length u) u ∷ []; size = r.size }) t' b' c' l' p
 appended {r} {t} {b} {c} {l} {p} h u b' t' c' l' size_of room bytes table cursor live =
-    let e : Extent = extent_for u in
+    let e : Extent = extent_for (length u) u in
     let one : IsSized e = record { least = size_of.0; most = size_of.1; fits = omega arith } in
     let size = length-extent_image e one in
     let cs = cursor-append r.extents (e ∷ []) in

@@ -21,7 +21,7 @@ pub record Region : Type 0 where
   pub extents : List Extent
   pub size : ℕ
 
--- the bytes of an extent's text; a dead one has none
+-- the text of an extent; a dead one has none
 abbrev pub text_bytes : Extent → List ℕ
 text_bytes e = unwrap_or e.text []
 
@@ -78,9 +78,9 @@ number_at (e ∷ es) at = if prefix_size e.capacity == at then 0 else suc (numbe
 abbrev pub with_text : List Extent → ℕ → Option (List ℕ) → List Extent
 with_text es k text = slice_set es k (record { capacity = (extent_at es k).capacity; text = text })
 
--- a new live extent of a text, with room for it alone
-abbrev pub extent_for : List ℕ → Extent
-extent_for text = record { capacity = length text; text = Some text }
+-- a new live extent of a text of this many bytes, with room for it alone
+abbrev pub extent_for : ℕ → List ℕ → Extent
+extent_for size text = record { capacity = size; text = Some text }
 
 -- the extents without the dead ones at their end
 abbrev pub front_of : Extent → List Extent → List Extent

@@ -85,7 +85,7 @@ impl Arena {
     pub fn append(&mut self, text: &[u8]) -> u64
         requires size { IsTextSize (length text.now) }
         requires room { cursor_of self.old.extents + (prefix_size (length text.now) + length text.now) ≤ self.old.size }
-        ensures extents { self.new.extents ≡ self.old.extents ++ extent_for text.now ∷ [] }
+        ensures extents { self.new.extents ≡ self.old.extents ++ extent_for (length text.now) text.now ∷ [] }
         ensures size { self.new.size ≡ self.old.size }
         ensures at { result ≡ cursor_of self.old.extents + prefix_size (length text.now) }
     {

@@ -65,7 +65,7 @@ pub fn write_padded(bytes: &mut [u8], at: usize, capacity: usize, text: &[u8])
 /// Writes the extent of a text: its prefix, and the text, which fills it.
 pub fn write_extent(bytes: &mut [u8], at: usize, text: &[u8])
     requires { at + (prefix_size (length text.now) + length text.now) ≤ length bytes.old }
-    ensures { bytes.new ≡ written bytes.old at (extent_image (extent_for text.now)) }
+    ensures { bytes.new ≡ written bytes.old at (extent_image (extent_for (length text.now) text.now)) }
 {
     let size = text.len() as u64;
     write_prefix(bytes, at, size);

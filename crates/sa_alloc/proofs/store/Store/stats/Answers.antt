@@ -10,11 +10,7 @@ overflow_sub-result c =
     omega arith
 
 pub returns-clause-stats : goal.returns-clause-stats
-returns-clause-stats c =
-    let s = c.self.inside in
-    stats-read s.lengths.items s.arena.extents s.outside.texts s.entries.items _ _ _ _ _ _ c.self.invariant.tied c.self.view_is c.cursor-cursor.ensures c.live-live.ensures c.count.ensures
+returns-clause-stats c = stats-read c.self.inside _ c.self.view_is c.self.invariant _ _ _ c.cursor-cursor.ensures c.live-live.ensures c.count.ensures
 
 pub returns-clause-sound : goal.returns-clause-sound
-returns-clause-sound c =
-    let s = c.self.inside in
-    store-sound s.lengths.items s.starts.items s.arena.extents s.outside.texts s.entries.items _ _ _ c.self.invariant c.self.view_is
+returns-clause-sound c = store-sound c.self.inside _ c.self.view_is c.self.invariant

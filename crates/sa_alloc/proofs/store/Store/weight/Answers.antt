@@ -9,12 +9,11 @@ use Rattle.sa_alloc.proofs.store.Store.weight.Goals as goal
 
 pub returns : goal.returns
 returns c =
-    let s = c.self.inside in
     let values = values_of c.args.self.now.contents.layout in
     let first = c.first-first.result in
     let count : (first + c.length-count.result) - first ≡ c.length-count.result = omega arith in
     c.entries_weight.ensures
     ∙ ap (λ ss. sum_by (λ s. 16 + slot_size s) (take ((first + c.length-count.result) - first) (drop first ss))) c.deref.ensures.value
-    ∙ weights-read s.lengths.items s.arena.extents s.outside.texts s.entries.items _ _ _ ((first + c.length-count.result) - first) first c.self.invariant.tied c.self.view_is
+    ∙ weights-read c.self.inside _ c.self.view_is c.self.invariant ((first + c.length-count.result) - first) first
     ∙ ap (λ n. weight_of (take n (drop first values))) (count ∙ c.length-count.ensures)
     ∙ ap (λ m. weight_of (take (slice_index c.args.self.now.contents.layout.lengths c.args.array) (drop m values))) c.first-first.ensures.first

@@ -1,4 +1,4 @@
-use Rattle.std.proofs.Common.{arith}
+use Rattle.std.proofs.Common.{length, arith}
 use Rattle.sa_arena.specs.Extents.{extent_for}
 use Rattle.sa_arena.specs.Images.{extent_image}
 use Rattle.sa_arena.proofs.ChangeLemmas.{lent_bytes, after_append}
@@ -27,9 +27,9 @@ overflow_add-self-2 c =
 pub invariant_of-self : goal.invariant_of-self
 invariant_of-self c =
     closed (after_append (opened c.self.invariant c.self.view_is) c.prefix_len.result c.args.text.now _ _ _ c.prefix_len.ensures c.requires.size c.requires.room
-    (lent_bytes c.self.inside.bytes _ _ c.self.inside.cursor (extent_image (extent_for c.args.text.now)) c.deref_mut.ensures.value c.deref_mut.ensures.len c.write_extent.auto.bytes c.write_extent.ensures) c.push_reserved.ensures.items c.push_reserved.ensures.capacity)
+    (lent_bytes c.self.inside.bytes _ _ c.self.inside.cursor (extent_image (extent_for (length c.args.text.now) c.args.text.now)) c.deref_mut.ensures.value c.deref_mut.ensures.len c.write_extent.auto.bytes c.write_extent.ensures) c.push_reserved.ensures.items c.push_reserved.ensures.capacity)
 
 pub returns-clause-extents : goal.returns-clause-extents
 returns-clause-extents c =
     same_extents (after_append (opened c.self.invariant c.self.view_is) c.prefix_len.result c.args.text.now _ _ _ c.prefix_len.ensures c.requires.size c.requires.room
-    (lent_bytes c.self.inside.bytes _ _ c.self.inside.cursor (extent_image (extent_for c.args.text.now)) c.deref_mut.ensures.value c.deref_mut.ensures.len c.write_extent.auto.bytes c.write_extent.ensures) c.push_reserved.ensures.items c.push_reserved.ensures.capacity)
+    (lent_bytes c.self.inside.bytes _ _ c.self.inside.cursor (extent_image (extent_for (length c.args.text.now) c.args.text.now)) c.deref_mut.ensures.value c.deref_mut.ensures.len c.write_extent.auto.bytes c.write_extent.ensures) c.push_reserved.ensures.items c.push_reserved.ensures.capacity)
