@@ -1,8 +1,9 @@
-use crate::{Call, Kind, Op, Operand, Script, ScriptFault, View, parse};
-use sa_descr::NaRule;
+use crate::{ArrayDecl, Call, CallList, Kind, Op, Operand, Script, ScriptFault, View, parse};
+use sa_descr::{Descr, NaRule};
 use sa_plain::Items;
 use sa_text::Value;
 use std::alloc::Global;
+use std::process::Abort;
 use std::test::Fail;
 
 /// A script of several descriptors, arrays and tasks.
@@ -50,25 +51,34 @@ const DESCRS: &[DescrRow] = &[
     (3, "g", "other", true),
 ];
 
-/// Whether a script has a row's descriptor.
-fn has_descr(script: &Script, row: &DescrRow) -> bool {
-    let (number, name, rule, coerce) = *row;
-    let named = script.names().descr(number) == Some(name);
-    let Some(descr) = script.decls().descrs().get(usize::from(number)) else {
-        return false;
-    };
-    named && rule_text(&descr.na) == rule.as_bytes() && descr.coerce == coerce
+/// Whether a script has a descriptor of this number and name.
+fn is_descr_named(script: &Script, number: u8, name: &str) -> bool {
+    script.names().descr(number) == Some(name)
 }
 
-#[test]
-fn descriptors(rt: HostRuntime) -> Result<(), Fail> {
-    let script = parsed(rt.alloc())?;
+/// The descriptors of a script.
+fn descrs_of(script: &Script) -> &[Descr] {
+    script.decls().descrs()
+}
+
+/// Whether a row's descriptor is among these.
+fn has_descr(descrs: &[Descr], row: &DescrRow) -> bool {
+    let (number, _, rule, coerce) = *row;
+    let Some(descr) = descrs.get(usize::from(number)) else {
+        return false;
+    };
+    rule_text(&descr.na) == rule.as_bytes() && descr.coerce == coerce
+}
+
+/// The descriptors are these and no others.
+fn try_descrs(rt: &impl Abort, script: &Script) {
+    let descrs = descrs_of(script);
     for row in DESCRS {
-        assert!(rt; has_descr(&script, row), "{row:?}");
+        assert!(rt; is_descr_named(script, row.0, row.1), "{row:?}");
+        assert!(rt; has_descr(descrs, row), "{row:?}");
     }
-    assert_eq!(rt; script.decls().descrs().len(), DESCRS.len());
+    assert_eq!(rt; descrs.len(), DESCRS.len());
     assert!(rt; script.names().descr(4).is_none());
-    Ok(())
 }
 
 /// An array of the script: its number, its name, the number of its home, and its length.
@@ -76,27 +86,34 @@ type ArrayRow = (u32, &'static str, u8, u32);
 
 const ARRAYS: &[ArrayRow] = &[(0, "b", 1, 1), (1, "a", 0, 2), (2, "c", 0, 3)];
 
-/// Whether a script has a row's array, one of texts.
-fn has_array(script: &Script, row: &ArrayRow) -> bool {
-    let (number, name, home, len) = *row;
-    let named = script.names().array(number) == Some(name);
-    match script.decls().arrays().get(number as usize) {
-        Some(array) => {
-            named && array.home == home && array.kind == Kind::Str && array.len == len
-        }
+/// Whether a script has an array of this number and name.
+fn is_array_named(script: &Script, number: u32, name: &str) -> bool {
+    script.names().array(number) == Some(name)
+}
+
+/// The arrays of a script.
+fn arrays_of(script: &Script) -> &[ArrayDecl] {
+    script.decls().arrays()
+}
+
+/// Whether a row's array, one of texts, is among these.
+fn has_array(arrays: &[ArrayDecl], row: &ArrayRow) -> bool {
+    let (number, _, home, len) = *row;
+    match arrays.get(number as usize) {
+        Some(array) => array.home == home && array.kind == Kind::Str && array.len == len,
         None => false,
     }
 }
 
-#[test]
-fn arrays(rt: HostRuntime) -> Result<(), Fail> {
-    let script = parsed(rt.alloc())?;
+/// The arrays are these and no others.
+fn try_arrays(rt: &impl Abort, script: &Script) {
+    let arrays = arrays_of(script);
     for row in ARRAYS {
-        assert!(rt; has_array(&script, row), "{row:?}");
+        assert!(rt; is_array_named(script, row.0, row.1), "{row:?}");
+        assert!(rt; has_array(arrays, row), "{row:?}");
     }
-    assert_eq!(rt; script.decls().arrays().len(), ARRAYS.len());
+    assert_eq!(rt; arrays.len(), ARRAYS.len());
     assert!(rt; script.names().array(3).is_none());
-    Ok(())
 }
 
 /// The items of a call's one operand, where that is a literal.
@@ -155,9 +172,19 @@ fn is_set(call: &Call, out: View, items: &[Option<&str>]) -> bool {
     }
 }
 
-/// The call of a script by the numbers of its task and of the call there.
-fn call_of(script: &Script, task: usize, call: usize) -> Option<&Call> {
-    script.tasks().get(task)?.get(call)
+/// Whether a call shows a view, and has no output.
+fn is_show(call: &Call, shown: View) -> bool {
+    call.op == Op::Show && call.out.is_none() && view_of(call) == Some(shown)
+}
+
+/// The tasks of a script.
+fn tasks_of(script: &Script) -> &[CallList] {
+    script.tasks().as_slice()
+}
+
+/// A call by the numbers of its task and of the call there.
+fn call_of(tasks: &[CallList], task: usize, call: usize) -> Option<&Call> {
+    tasks.get(task)?.get(call)
 }
 
 /// A task of the script: its number, and how many calls it has.
@@ -165,49 +192,64 @@ type TaskRow = (usize, usize);
 
 const TASKS: &[TaskRow] = &[(0, 1), (1, 0), (2, 3)];
 
-/// Whether a script has a row's task, with so many calls.
-fn has_task(script: &Script, row: &TaskRow) -> bool {
+/// Whether a row's task is among these, with so many calls.
+fn has_task(tasks: &[CallList], row: &TaskRow) -> bool {
     let (task, calls) = *row;
-    match script.tasks().get(task) {
+    match tasks.get(task) {
         Some(list) => list.len() == calls,
         None => false,
     }
 }
 
-#[test]
-fn calls_of_each_task(rt: HostRuntime) -> Result<(), Fail> {
-    let script = parsed(rt.alloc())?;
+/// The tasks are these and no others.
+fn try_tasks(rt: &impl Abort, tasks: &[CallList]) {
     for row in TASKS {
-        assert!(rt; has_task(&script, row), "{row:?}");
+        assert!(rt; has_task(tasks, row), "{row:?}");
     }
-    assert_eq!(rt; script.tasks().len(), TASKS.len());
-    Ok(())
+    assert_eq!(rt; tasks.len(), TASKS.len());
 }
 
-/// The calls of the script that set: the numbers of the task and of the call there, the number of the
+/// A call of the script that sets: the numbers of the task and of the call there, the number of the
 /// array and its length, and the items.
-const SETS: &[(usize, usize, u32, u32, &[Option<&str>])] = &[
+type SetRow = (usize, usize, u32, u32, &'static [Option<&'static str>]);
+
+const SETS: &[SetRow] = &[
     (0, 0, 1, 2, &[Some("é\"\\ x"), None]),
     (2, 0, 2, 3, &[Some("")]),
     (2, 1, 0, 1, &[None]),
 ];
 
-#[test]
-fn calls_that_set(rt: HostRuntime) -> Result<(), Fail> {
-    let script = parsed(rt.alloc())?;
-    for (task, number, array, len, items) in SETS {
-        let call = call_of(&script, *task, *number).ok_or("no such call")?;
-        assert!(rt; is_set(call, whole(*array, *len), items), "{task}:{number}");
+/// Whether a row's call is among these.
+fn has_set(tasks: &[CallList], row: &SetRow) -> bool {
+    let (task, number, array, len, items) = *row;
+    match call_of(tasks, task, number) {
+        Some(call) => is_set(call, whole(array, len), items),
+        None => false,
     }
-    Ok(())
+}
+
+/// Whether the last call of the last task shows the third array.
+fn has_show(tasks: &[CallList]) -> bool {
+    match call_of(tasks, 2, 2) {
+        Some(call) => is_show(call, whole(2, 3)),
+        None => false,
+    }
+}
+
+/// The calls are these.
+fn try_calls(rt: &impl Abort, tasks: &[CallList]) {
+    for row in SETS {
+        assert!(rt; has_set(tasks, row), "{row:?}");
+    }
+    assert!(rt; has_show(tasks));
 }
 
 #[test]
-fn a_call_that_shows(rt: HostRuntime) -> Result<(), Fail> {
+fn what_a_script_is(rt: HostRuntime) -> Result<(), Fail> {
     let script = parsed(rt.alloc())?;
-    let show = call_of(&script, 2, 2).ok_or("no such call")?;
-    assert_eq!(rt; show.op, Op::Show);
-    assert_eq!(rt; show.out, None);
-    assert_eq!(rt; view_of(show), Some(whole(2, 3)));
+    try_descrs(&rt, &script);
+    try_arrays(&rt, &script);
+    try_tasks(&rt, tasks_of(&script));
+    try_calls(&rt, tasks_of(&script));
     Ok(())
 }
