@@ -16,7 +16,7 @@ use Rattle.sa_alloc.specs.Layouts as layouts
 use Rattle.sa_alloc.specs.Layouts.{Layout, opening_layout, first_entry, value_at, value_in, put_all, stats_of}
 use Rattle.sa_alloc.specs.StoreValues.{StoreValue}
 use Rattle.sa_alloc.specs.Stores.{AreDistinct, puts_from}
-use Rattle.sa_alloc.specs.Ties.{IsSmall}
+use Rattle.sa_alloc.specs.Consistency.{IsSmall}
 use Rattle.sa_plain.specs.declared.items.Items.TheVariants.{Values}
 use Rattle.sa_script.specs.declared.call.View.{View}
 use Rattle.sa_script.specs.declared.decls.ArrayDecl.{ArrayDecl}

@@ -2,7 +2,7 @@ use Rattle.std.proofs.Common.{◌≡◌, ◌+◌, ℕ, ◌∷◌, [], ◌++◌, 
 use Rattle.std.proofs.lemmas.List.{map-append}
 use Rattle.sa_alloc.specs.Layouts.{opening_layout}
 use Rattle.sa_alloc.specs.StoreValues.{StoreValue}
-use Rattle.sa_alloc.specs.Ties.{IsSmall}
+use Rattle.sa_alloc.specs.Consistency.{IsSmall}
 use Rattle.strarr.specs.Worlds.{lengths_of, counted_from}
 use Rattle.strarr.specs.Runs.{layouts_of}
 use Rattle.strarr.proofs.HeldLemmas.{counted-more, small-lengths}
