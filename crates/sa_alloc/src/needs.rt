@@ -7,7 +7,7 @@ ghost use Rattle.sa_alloc.specs.Needs.{needs_of, outer_needs};
 use sa_arena::prefix_len;
 use sa_base::Memory;
 use sa_entry::Form;
-use sa_text::{stretched_at, Value};
+use sa_text::{Value, stretched_at};
 use std::alloc::Global;
 
 /// The fewest bytes of a text that does not stand inside its slot.

@@ -259,7 +259,12 @@ impl Store {
         ensures size { self.new.room.size ≡ self.old.room.size }
         ensures spare { self.old.room.spare ≤ self.new.room.spare + keys_taken self.old.contents.layout.extents (state_at self.old.contents.layout.states entry) (incoming value) }
     {
-        step(&mut self.arena, &mut self.outside, &mut self.entries[entry], value);
+        step(
+            &mut self.arena,
+            &mut self.outside,
+            &mut self.entries[entry],
+            value,
+        );
     }
 }
 

@@ -2,7 +2,7 @@ ghost use Rattle.std.specs.Prelude.{◌≡◌, ◌<◌, length, slice_index};
 
 use crate::{Seen, Store};
 use sa_base::Stats;
-use sa_text::{stretched_len, value_weight, Text, Value};
+use sa_text::{Text, Value, stretched_len, value_weight};
 use std::alloc::Global;
 use std::process::Abort;
 use std::test::Fail;
@@ -305,7 +305,11 @@ fn values_and_weights_are_those_of_the_entries(rt: HostRuntime) -> Result<(), Fa
             Value::Of(text) => Seen::Bytes(text.as_bytes()),
         };
         assert_eq!(rt; store.load(1, place), seen, "at {place}");
-        assert_eq!(rt; store.value_weight(1, place), value_weight(value), "at {place}");
+        assert_eq!(rt;
+            store.value_weight(1, place),
+            value_weight(value),
+            "at {place}"
+        );
     }
     assert_eq!(rt; store.weight(1), 5 * 16 + 20 + 3 + 40);
     Ok(())
