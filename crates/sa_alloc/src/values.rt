@@ -88,13 +88,7 @@ fn long_part(seen: Seen<'_>) -> &[u8]
 {
     match seen {
         Seen::Missing => &[],
-        Seen::Bytes(bytes) => {
-            if bytes.len() > ALONE_MOST {
-                bytes
-            } else {
-                &[]
-            }
-        }
+        Seen::Bytes(bytes) => { if bytes.len() > ALONE_MOST { bytes } else { &[] } }
     }
 }
 

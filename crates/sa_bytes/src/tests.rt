@@ -55,11 +55,22 @@ fn parts_of_a_block_are_its_bytes(rt: HostRuntime) -> Result<(), Fail> {
     let alloc = rt.alloc();
     let letters = b"abcdefghijklmnopqrstuvwxyz";
     let block = Block::new(alloc, Vec::from_slice(alloc, letters)?)?;
-    for (start, size) in [(0, 26), (0, 14), (1, 15), (11, 15), (26, 0), (25, 1), (5, 20)] {
+    for (start, size) in [
+        (0, 26),
+        (0, 14),
+        (1, 15),
+        (11, 15),
+        (26, 0),
+        (25, 1),
+        (5, 20),
+    ] {
         assert!(rt; start + size <= letters.len());
         let part = block.part(start, size)?;
         assert_eq!(rt; part.len(), size);
-        assert!(rt; part.as_slice() == &letters[start..start + size], "of {start} and {size}");
+        assert!(rt;
+            part.as_slice() == &letters[start..start + size],
+            "of {start} and {size}"
+        );
     }
     // a part outlives its block
     let part = block.part(3, 18)?;

@@ -50,7 +50,10 @@ fn calls_have_their_lines(rt: HostRuntime) -> Result<(), Fail> {
     push_call_line(&mut out, 1, &Reply::Shown(items(alloc, &[Some("hi")])?))?;
     push_call_line(&mut out, 1023, &Reply::Refused { code: 4, at: 8191 })?;
     push_pair(&mut out, (63, 1023))?;
-    assert_eq!(rt; out.as_slice(), b"0 done\n1 shown (\"hi\")\n1023 refused 4 8191\n 63:1023".as_slice());
+    assert_eq!(rt;
+        out.as_slice(),
+        b"0 done\n1 shown (\"hi\")\n1023 refused 4 8191\n 63:1023".as_slice()
+    );
     Ok(())
 }
 

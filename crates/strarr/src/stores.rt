@@ -98,7 +98,12 @@ pub fn array_weight(decls: &Decls, stores: &[Store], array: u32) -> u64
 
 /// The first refusal among the items of an array that are answered, behind their own weight. None is
 /// copied, and where they weigh at most half of what a call may none is looked at.
-pub fn shown_refusal(decls: &Decls, stores: &[Store], array: u32, weight: u64) -> Option<(Refusal, u32)>
+pub fn shown_refusal(
+    decls: &Decls,
+    stores: &[Store],
+    array: u32,
+    weight: u64,
+) -> Option<(Refusal, u32)>
     requires array { array < length decls.now.arrays }
     requires layouts { AreLayouts decls.now (layouts_of stores.now) }
     requires weight { weight ≡ weight_of (values_at decls.now (world_of (layouts_of stores.now)) array) }

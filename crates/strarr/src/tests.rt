@@ -216,8 +216,17 @@ fn large_input_and_output_have_their_answers(rt: HostRuntime) -> Result<(), Fail
         script.push(b'x')?;
     }
     script.extend_from_slice(b"\"\nshow a\ntask\nshow a\nshow a\ntask\nshow a\nshow a\nend\n")?;
-    let (status, written) = outcome(alloc, &["serial"], script.as_slice(), 65_536, &[], 3_000_000, &[])?;
-    let front = b"report 1\nhistory 0:0 0:1 1:0 1:1 2:0 2:1\nmarked\ntask 0\n0 done\n1 shown (\"xxxx";
+    let (status, written) = outcome(
+        alloc,
+        &["serial"],
+        script.as_slice(),
+        65_536,
+        &[],
+        3_000_000,
+        &[],
+    )?;
+    let front =
+        b"report 1\nhistory 0:0 0:1 1:0 1:1 2:0 2:1\nmarked\ntask 0\n0 done\n1 shown (\"xxxx";
     assert_eq!(rt; status, Status::Done);
     assert!(rt; starts(written.as_slice(), front));
     assert_eq!(rt; written.len(), 2_113_727);
