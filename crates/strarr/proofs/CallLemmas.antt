@@ -22,6 +22,7 @@ use Rattle.sa_script.specs.Contexts.{length_at, array_at}
 use Rattle.sa_script.specs.Decls.{Declared, IsDeclared, entries_at}
 use Rattle.sa_script.specs.Effects.{stretched, forbids, home_of}
 use Rattle.sa_script.specs.Sound.{IsCall, IsOperation, IsWhole}
+use Rattle.strarr.proofs.SlotLemmas.{home_below}
 use Rattle.strarr.specs.Plays.{pairs_from}
 use Rattle.sa_alloc.specs.Layouts.{Layout}
 use Rattle.strarr.specs.Worlds.{values_at}
@@ -82,14 +83,11 @@ show_operands d o (operand.View w ∷ os) out v h e =
 pub show_shape : (d : Declared) (call : Call) (v : View) → IsCall d call → slice_get call.operands 0 ≡ Some (operand.View v) → ShowShape d call v
 show_shape d call v h e = show_operands d call.op call.operands call.out v h e
 
--- an array's home is one of the descriptors
+-- what holds of each element of a list holds of the one at a place
 pub all_at : {A : Type 0} (P : A → Type 0) (xs : List A) (k : ℕ) (d : A) → AllByRecursion P xs → k < length xs → P (get_or xs k d)
 all_at P [] k d a below = absurd (omega arith)
 all_at P (x ∷ xs) zero d a below = a.0
 all_at P (x ∷ xs) (suc k) d a below = all_at P xs k d a.1 (omega arith)
-
-home_below : (d : Declared) (array : ℕ) → IsDeclared d → array < length d.arrays → home_of d array < length d.descrs
-home_below d array declared below = all_at (λ (a : ArrayDecl). a.home < length d.descrs) d.arrays array (record { home = 0; kind = kind.Str; len = 0 }) declared.homes below
 
 -- an array has no more items than its descriptor may have entries
 pub length_few : (d : Declared) (k : ℕ) → IsDeclared d → k < length d.arrays → length_at d.arrays k ≤ 8192
@@ -156,6 +154,6 @@ show_facts d ls call v declared are valid first =
     record {
       declared = s.whole.declared;
       few = omega arith;
-      outcome = ap (outcome_held d ls) s.call_is ∙ outcome_show d (values_at d (world_of ls)) v s.whole (home_below d v.array declared s.whole.declared) long;
+      outcome = ap (outcome_held d ls) s.call_is ∙ outcome_show d (values_at d (world_of ls)) v s.whole (home_below (length d.descrs) d.arrays v.array declared.homes s.whole.declared) long;
       kept = sym (ap (λ (c : Call). layouts_with d ls c.out (outcome_held d ls call).results) s.call_is);
     }

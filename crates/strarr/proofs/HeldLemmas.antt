@@ -1,17 +1,11 @@
 -- What the stores of the descriptors hold, as the program reads and writes it.
-use Rattle.std.proofs.Common.{◌≡◌, inl, inr, ◌≤◌, ◌<◌, ◌+◌, ℕ, zero, suc, false, eqb, List, [], ◌∷◌, ◌++◌, length, map, take, drop, sum, get_or, set, Some, IsUtf8, refl, sym, ap, ◌∙◌, subst, arith, drop-cons, Result, Ok, Err, OnOk}
+use Rattle.std.proofs.Common.{◌≡◌, inl, inr, ◌≤◌, ◌<◌, ◌+◌, ℕ, zero, suc, false, eqb, List, [], ◌∷◌, ◌++◌, length, map, take, drop, sum, get_or, set, Some, refl, sym, ap, ◌∙◌, subst, arith, drop-cons, Result, Ok, Err, OnOk}
 use Rattle.std.specs.List.{AllByRecursion, IsDistinct, filter, zip}
-use Rattle.std.specs.Str.{chars}
 use Rattle.std.proofs.lemmas.Bool.{cases_Bool, ne_eqb}
-use Rattle.std.proofs.lemmas.List.{length-map, length-drop, length-take-le, get_or-map, map-set}
+use Rattle.std.proofs.lemmas.List.{length-map, length-drop, length-take-le, get_or-map, get_or-take, get_or-drop, map-set}
 use Rattle.std.proofs.lemmas.List.Sums.{sum_by-cons, sum_by_more, length-filter, count_by-le-length}
-use Rattle.std.proofs.lemmas.Str.{encodes-chars}
-use Rattle.sa_text.specs.Texts.{text_of}
-use Rattle.sa_text.specs.Values.{value_weight, weight_of}
 use Rattle.sa_text.specs.declared.value.Value.{Value}
 use Rattle.sa_text.specs.declared.value.Value.TheVariants as value
-use Rattle.sa_text.specs.declared.text_error.TextError.TheVariants as errors
-use Rattle.sa_text.proofs.TextLemmas.{text_of-utf8}
 use Rattle.sa_alloc.specs.Layouts as layouts
 use Rattle.sa_alloc.specs.Layouts.{Layout, opening_layout, first_entry, value_at, value_in, put_all, stats_of}
 use Rattle.sa_alloc.specs.StoreValues.{StoreValue}
@@ -106,18 +100,6 @@ pub record ShowsEntry (l : Layout) (slot p : ℕ) (v : Value) : Type 0 where
   pub value : value_at l (first_entry l.lengths slot + p) ≡ get_or (get_or (strings_in l) slot []) p v
   pub within : p < length (get_or (strings_in l) slot [])
 
-get_or-taken : {A : Type 0} (xs : List A) (n p : ℕ) (d : A) → p < n → get_or (take n xs) p d ≡ get_or xs p d
-get_or-taken [] zero p d h = refl
-get_or-taken [] (suc n) p d h = refl
-get_or-taken (x ∷ xs) zero p d h = absurd (omega arith)
-get_or-taken (x ∷ xs) (suc n) zero d h = refl
-get_or-taken (x ∷ xs) (suc n) (suc p) d h = get_or-taken xs n p d (omega arith)
-
-get_or-dropped : {A : Type 0} (xs : List A) (k p : ℕ) (d : A) → get_or (drop k xs) p d ≡ get_or xs (k + p) d
-get_or-dropped xs zero p d = let e : p ≡ 0 + p = omega arith in ap (λ n. get_or xs n d) e
-get_or-dropped [] (suc k) p d = let e : suc k + p ≡ suc (k + p) = omega arith in sym (ap (λ n. get_or [] n d) e)
-get_or-dropped (x ∷ xs) (suc k) p d = let e : suc (k + p) ≡ suc k + p = omega arith in get_or-dropped xs k p d ∙ ap (λ n. get_or (x ∷ xs) n d) e
-
 pub length-strings : (l : Layout) (slot : ℕ) → slot < length l.lengths → length l.states ≡ sum l.lengths → length (get_or (strings_in l) slot []) ≡ get_or l.lengths slot 0
 length-strings l slot below states =
     let within = sum-within l.lengths slot below in
@@ -133,41 +115,11 @@ shows-entry l slot p v below inside states =
     record {
       value =
           sym (get_or-map (value_in l.extents) l.states (f + p) layouts.Fresh v there)
-          ∙ sym (get_or-dropped (layouts.values_of l) f p v)
-          ∙ sym (get_or-taken (drop f (layouts.values_of l)) (get_or l.lengths slot 0) p v inside)
+          ∙ sym (get_or-drop f (layouts.values_of l) p v)
+          ∙ sym (get_or-take (get_or l.lengths slot 0) (drop f (layouts.values_of l)) p v inside)
           ∙ ap (λ xs. get_or xs p v) (sym (piece-at l.lengths (layouts.values_of l) slot below));
       within = let long = length-strings l slot below states in omega arith;
     }
-
-take-more : {A : Type 0} (xs : List A) (k : ℕ) (d : A) → k < length xs → take (k + 1) xs ≡ take k xs ++ get_or xs k d ∷ []
-take-more [] k d h = absurd (omega arith)
-take-more (x ∷ xs) zero d h = refl
-take-more (x ∷ xs) (suc k) d h = let e : suc k + 1 ≡ suc (k + 1) = omega arith in ap (λ n. take n (x ∷ xs)) e ∙ ap (λ ys. x ∷ ys) (take-more xs k d (omega arith))
-
--- one entry more that is weighed, and that is copied
-pub weight-more : (l : Layout) (slot p weight one : ℕ) → slot < length l.lengths → p < get_or l.lengths slot 0 → length l.states ≡ sum l.lengths
-    → weight ≡ weight_of (take p (get_or (strings_in l) slot [])) → one ≡ value_weight (value_at l (first_entry l.lengths slot + p))
-    → weight + one ≡ weight_of (take (p + 1) (get_or (strings_in l) slot []))
-weight-more l slot p weight one below inside states so_far one_is =
-    let shown = shows-entry l slot p value.Missing below inside states in
-    let more = sum_by_more value_weight (get_or (strings_in l) slot []) p value.Missing shown.within in
-    let same : one ≡ value_weight (get_or (get_or (strings_in l) slot []) p value.Missing) = one_is ∙ ap value_weight shown.value in
-    omega arith
-
-pub values-more : (l : Layout) (slot p : ℕ) (v : Value) (before after : List Value) → slot < length l.lengths → p < get_or l.lengths slot 0 → length l.states ≡ sum l.lengths
-    → before ≡ take p (get_or (strings_in l) slot []) → v ≡ value_at l (first_entry l.lengths slot + p) → after ≡ before ++ v ∷ []
-    → after ≡ take (p + 1) (get_or (strings_in l) slot [])
-values-more l slot p v before after below inside states so_far v_is written =
-    let shown = shows-entry l slot p v below inside states in
-    written ∙ ap (λ xs. xs ++ v ∷ []) so_far ∙ ap (λ x. take p (get_or (strings_in l) slot []) ++ x ∷ []) (v_is ∙ shown.value) ∙ sym (take-more (get_or (strings_in l) slot []) p v shown.within)
-
--- a text that was lent
-
-pub lent-weight : (v : Value) (bytes : List ℕ) → v ≡ value.Of (chars bytes) → IsUtf8 bytes → 16 + length bytes ≡ value_weight v
-lent-weight v bytes e utf8 = ap (λ (b : List ℕ). 16 + length b) (sym (encodes-chars bytes utf8)) ∙ ap value_weight (sym e)
-
-pub lent-is_text : (bytes : List ℕ) → IsUtf8 bytes → length bytes ≤ 65536 → text_of bytes ≡ Err errors.NotUtf8 → ⊥
-lent-is_text bytes utf8 short e = let f = text_of-utf8 bytes short utf8 in let g : Ok (chars bytes) ≡ Err errors.NotUtf8 = sym f ∙ e in cc
 
 -- the store of a descriptor
 

@@ -1,7 +1,7 @@
 -- Lists in pieces, and a piece that is replaced.
 use Rattle.std.proofs.Common.{◌≡◌, ◌<◌, ◌+◌, ℕ, zero, suc, List, [], ◌∷◌, ◌++◌, length, map, take, drop, sum, replicate, refl, sym, ap, ◌∙◌, arith, get_or, set, append_assoc}
 use Rattle.std.proofs.lemmas.List.Sums.{sum_by-cons}
-use Rattle.std.proofs.lemmas.List.{take-append-drop, length-drop, length-take-le, length-replicate}
+use Rattle.std.proofs.lemmas.List.{take-append-drop, drop-drop, length-drop, length-take-le, length-replicate}
 use Rattle.std.proofs.Math.Seq.{take-append-add, drop-append-add, take-append_seam, drop-append_seam}
 use Rattle.strarr.specs.Runs.{pieces}
 
@@ -15,15 +15,6 @@ length-pieces (n ∷ ns) xs = ap suc (length-pieces ns (drop n xs))
 -- a list with other items in the place of as many from a number on
 abbrev pub spliced : {A : Type 0} → List A → ℕ → List A → List A
 spliced xs k ys = take k xs ++ (ys ++ drop (k + length ys) xs)
-
-drop-drop : {A : Type 0} (m n : ℕ) (xs : List A) → drop n (drop m xs) ≡ drop (m + n) xs
-drop-drop zero n xs = let e : n ≡ 0 + n = omega arith in ap (λ k. drop k xs) e
-drop-drop (suc m) n [] = drop-nil n ∙ sym (drop-nil (suc m + n))
-  where
-    drop-nil : {A : Type 0} (n : ℕ) → drop n (let xs : List A = [] in xs) ≡ []
-    drop-nil zero = refl
-    drop-nil (suc n) = refl
-drop-drop (suc m) n (x ∷ xs) = let e : suc (m + n) ≡ suc m + n = omega arith in drop-drop m n xs ∙ ap (λ k. drop k (x ∷ xs)) e
 
 -- the pieces of a list with a piece replaced
 pub pieces-spliced : {A : Type 0} (ns : List ℕ) (xs : List A) (slot : ℕ) (ys : List A) → slot < length ns → length ys ≡ get_or ns slot 0 → length xs ≡ sum ns
@@ -64,7 +55,7 @@ piece-at [] xs slot below = absurd (omega arith)
 piece-at (n ∷ ns) xs zero below = refl
 piece-at (n ∷ ns) xs (suc slot) below =
     piece-at ns (drop n xs) slot (omega arith)
-    ∙ ap (take (get_or ns slot 0)) (drop-drop n (sum (take slot ns)) xs ∙ ap (λ k. drop k xs) (sym (sum-cons n (take slot ns))))
+    ∙ ap (take (get_or ns slot 0)) (drop-drop (sum (take slot ns)) n xs ∙ ap (λ k. drop k xs) (sym (sum-cons n (take slot ns))))
 
 -- pieces of one item alone
 pub pieces-replicate : {A : Type 0} (ns : List ℕ) (x : A) → pieces ns (replicate (sum ns) x) ≡ map (λ n. replicate n x) ns
