@@ -1,7 +1,9 @@
 pub mod CallLemmas
 pub mod DeclLemmas
+pub mod DistinctLemmas
 pub mod ItemLemmas
 pub mod LineLemmas
 pub mod ListLemmas
 pub mod NameLemmas
 pub mod SoundLemmas
+pub mod SpelledLemmas

@@ -1,11 +1,13 @@
 -- A statement without a fault keeps what the lines declare sound.
 use Rattle.std.proofs.Common.{◌≡◌, ℕ, suc, ◌+◌, ◌<◌, ◌≤◌, Bool, true, false, not, ◌||◌, cond, eqb, nat_lt, nat_le, ℤ, pos, negsuc, List, [], ◌∷◌, ◌++◌, length, Option, Some, None, is_none, unwrap_or, refl, ap, subst, arith, length-append, sum_by}
-use Rattle.std.specs.List.{AllByRecursion}
+use Rattle.std.specs.List.{AllByRecursion, IsDistinct}
+use Rattle.std.specs.Option.{IfSome}
 use Rattle.std.proofs.lemmas.Bool.{ltb-false, leb-false, lt-ltb, eqb-true}
 use Rattle.std.proofs.lemmas.List.Sums.{sum_by-append}
 use Rattle.std.proofs.lemmas.List.Quantifiers.{position-Some}
 use Rattle.sa_descr.specs.declared.descr.NaRule.{NaRule}
 use Rattle.sa_descr.specs.declared.descr.NaRule.TheVariants.{Absent}
+use Rattle.sa_plain.specs.declared.items.Items.TheVariants.{Values}
 use Rattle.sa_script.specs.declared.decls.Kind.TheVariants as kind
 use Rattle.sa_text.specs.declared.value.Value.{Value}
 use Rattle.sa_script.specs.declared.call.Call.{Call}
@@ -15,19 +17,14 @@ use Rattle.sa_script.specs.declared.decls.ArrayDecl.{ArrayDecl}
 use Rattle.sa_script.specs.declared.statement.Statement.{Statement}
 use Rattle.sa_script.specs.declared.statement.Statement.TheVariants as statement
 use Rattle.sa_script.specs.Calls.{with_call, whole, set_call, show_call, lengths_fit}
-use Rattle.sa_script.specs.Contexts.{after, with_descr, with_array, with_task, with_last, used, used_length, array_number, descr_number, home_number, number_in, is_known, allowed}
+use Rattle.sa_script.specs.Contexts.{nothing, after, with_descr, with_array, with_task, with_last, used, used_length, array_number, descr_number, home_number, number_in, is_known, allowed}
 use Rattle.sa_script.specs.Decls.{Declared, entries_of, entries_at}
 use Rattle.sa_script.specs.Faults.{fault_of, out_of_order, misnamed, over_limit, bad_lengths, count_in, passes_entries, is_long}
-use Rattle.sa_script.specs.Sound.{IsSoundContext, IsCall, AreCalls, IsWhole}
-
--- what holds of each element of a list, and of one more
-all_weaker : {A : Type 0} (P Q : A → Type 0) (xs : List A) → ((x : A) → P x → Q x) → AllByRecursion P xs → AllByRecursion Q xs
-all_weaker P Q [] f a = tt
-all_weaker P Q (x ∷ xs) f a = (f x a.0, all_weaker P Q xs f a.1)
-
-all_push : {A : Type 0} (P : A → Type 0) (xs : List A) (y : A) → AllByRecursion P xs → P y → AllByRecursion P (xs ++ y ∷ [])
-all_push P [] y a p = (p, tt)
-all_push P (x ∷ xs) y a p = (a.0, all_push P xs y a.1 p)
+use Rattle.sa_script.specs.Names.{name_of}
+use Rattle.sa_script.specs.Sound.{IsSoundContext, IsCall, AreCalls, IsWhole, IsDeclaredName, IsRule, HasTextRule, IsLiteral}
+use Rattle.sa_script.proofs.DistinctLemmas.{distinct_descr, distinct_array}
+use Rattle.sa_script.proofs.ListLemmas.{all_weaker, all_push}
+use Rattle.sa_script.proofs.SpelledLemmas.{IsSpelled}
 
 -- a chain of tests that gives nothing fails each of them
 record NoneOf (p q r s : Bool) : Type 0 where
@@ -70,9 +67,18 @@ entry_fits before None e = cc
 entry_fits before (Some (pos n)) e = let within = ltb-false 8192 (before + n) e in omega arith
 entry_fits before (Some (negsuc n)) e = cc
 
+-- a name that is spelled as one and not too long, and the rule of a descriptor
+declared_name : (name : List ℕ) → name_of name ≡ Some name → is_long name ≡ false → IsDeclaredName name
+declared_name name spelled short = record { spelled = spelled; short = ltb-false 32 (length name) short }
+
+given_rule : (rule : Option NaRule) → IfSome rule IsRule → IsRule (unwrap_or rule Absent)
+given_rule None is = tt
+given_rule (Some rule) is = is
+
 -- a further descriptor
-descr_after : (c : Context) (name : List ℕ) (rule : NaRule) (coerce : Bool) → IsSoundContext c → nat_lt 0 (length c.tasks) ≡ false → nat_le 8 (length c.descrs) ≡ false → IsSoundContext (with_descr c name rule coerce)
-descr_after c name rule coerce s untasked few =
+descr_after : (c : Context) (name : List ℕ) (rule : NaRule) (coerce : Bool) → IsSoundContext c → IsDeclaredName name → is_known c.names name ≡ false → IsRule rule
+    → nat_lt 0 (length c.tasks) ≡ false → nat_le 8 (length c.descrs) ≡ false → IsSoundContext (with_descr c name rule coerce)
+descr_after c name rule coerce s named_so new text untasked few =
     let d = s.sound.declared in
     let room = leb-false 8 (length c.descrs) few in
     let longer = length-append c.descrs ((record { na = rule; coerce = coerce }) ∷ []) in
@@ -87,6 +93,12 @@ descr_after c name rule coerce s untasked few =
         };
         descr_names = let before = s.sound.descr_names in omega arith;
         array_names = s.sound.array_names;
+        names = record {
+          descrs = all_push IsDeclaredName c.names.descrs name s.sound.names.descrs named_so;
+          arrays = s.sound.names.arrays;
+          distinct = distinct_descr c.names name s.sound.names.distinct new;
+        };
+        rules = all_push HasTextRule c.descrs (record { na = rule; coerce = coerce }) s.sound.rules text;
         few_tasks = s.sound.few_tasks;
         few_calls = s.sound.few_calls;
         valid = no_calls (record { descrs = c.descrs ++ (record { na = rule; coerce = coerce }) ∷ []; arrays = c.arrays }) c.tasks untasked;
@@ -106,9 +118,9 @@ entries_after arrays home len given other within fits same =
     go false e whole = let here : cond (eqb home other) len 0 ≡ 0 = rw e refl in omega arith
 
 -- a further array
-array_after : (c : Context) (name home : List ℕ) (len : Option ℤ) → IsSoundContext c → nat_lt 0 (length c.tasks) ≡ false → nat_le 64 (length c.arrays) ≡ false
+array_after : (c : Context) (name home : List ℕ) (len : Option ℤ) → IsSoundContext c → IsDeclaredName name → is_known c.names name ≡ false → nat_lt 0 (length c.tasks) ≡ false → nat_le 64 (length c.arrays) ≡ false
     → is_none (descr_number c home) ≡ false → passes_entries (entries_of c.arrays (home_number c home)) len ≡ false → IsSoundContext (with_array c name (home_number c home) (allowed len))
-array_after c name home len s untasked few known fits =
+array_after c name home len s named_so new_name untasked few known fits =
     let d = s.sound.declared in
     let new : ArrayDecl = record { home = home_number c home; kind = kind.Str; len = allowed len } in
     let room = leb-false 64 (length c.arrays) few in
@@ -125,6 +137,12 @@ array_after c name home len s untasked few known fits =
         };
         descr_names = s.sound.descr_names;
         array_names = let before = s.sound.array_names in omega arith;
+        names = record {
+          descrs = s.sound.names.descrs;
+          arrays = all_push IsDeclaredName c.names.arrays name s.sound.names.arrays named_so;
+          distinct = distinct_array c.names name s.sound.names.distinct new_name;
+        };
+        rules = s.sound.rules;
         few_tasks = s.sound.few_tasks;
         few_calls = s.sound.few_calls;
         valid = no_calls (record { descrs = c.descrs; arrays = c.arrays ++ new ∷ [] }) c.tasks untasked;
@@ -145,6 +163,8 @@ task_after c s few =
         declared = s.sound.declared;
         descr_names = s.sound.descr_names;
         array_names = s.sound.array_names;
+        names = s.sound.names;
+        rules = s.sound.rules;
         few_tasks = omega arith;
         few_calls = omega arith;
         valid = all_push (AllByRecursion (IsCall (record { descrs = c.descrs; arrays = c.arrays }))) c.tasks [] s.sound.valid tt;
@@ -184,6 +204,8 @@ call_after c call s tasked few valid =
         declared = s.sound.declared;
         descr_names = s.sound.descr_names;
         array_names = s.sound.array_names;
+        names = s.sound.names;
+        rules = s.sound.rules;
         few_tasks = omega arith;
         few_calls = omega arith;
         valid = calls-with_call (record { descrs = c.descrs; arrays = c.arrays }) c.tasks call s.sound.valid valid;
@@ -205,32 +227,55 @@ list_fits : (items : Option (List Value)) (len : ℕ) → is_none items ≡ fals
 list_fits None len e f = cc
 list_fits (Some items) len e f = not_false (lengths_fit (length items ∷ []) len) f
 
+-- and is a literal
+list_is : (items : Option (List Value)) → is_none items ≡ false → IfSome items (λ (values : List Value). IsLiteral (Values values)) → IsLiteral (Values (unwrap_or items []))
+list_is None e is = cc
+list_is (Some items) e is = is
+
 -- what it says of a statement that it has no fault
 faultless : (c : Context) (s : Statement) → fault_of c s ≡ None → NoneOf (out_of_order c s) (misnamed c s) (over_limit c s) (bad_lengths c s)
 faultless c s e = none_of (out_of_order c s) (misnamed c s) (over_limit c s) (bad_lengths c s) cause.Order cause.Name cause.Limit cause.Lengths e
 
-pub sound_after : (c : Context) (s : Statement) → IsSoundContext c → fault_of c s ≡ None → IsSoundContext (after c s)
-sound_after c (statement.Descr name rule coerce) s e =
+-- before the first line
+pub sound_nothing : IsSoundContext nothing
+unfolding IsDistinct
+sound_nothing = record {
+  sound = record {
+    declared = record { homes = tt; descrs = omega arith; arrays = omega arith; entries = λ home. omega arith };
+    descr_names = refl;
+    array_names = refl;
+    names = record { descrs = tt; arrays = tt; distinct = tt };
+    rules = tt;
+    few_tasks = omega arith;
+    few_calls = omega arith;
+    valid = tt;
+  };
+  counted = refl;
+}
+
+pub sound_after : (c : Context) (s : Statement) → IsSoundContext c → IsSpelled s → fault_of c s ≡ None → IsSoundContext (after c s)
+sound_after c (statement.Descr name rule coerce) s spelled e =
     let none = faultless c (statement.Descr name rule coerce) e in
     let order = either_false c.ended (nat_lt 0 (length c.tasks)) none.first in
     let limit = either_false (is_long name || is_none rule) (nat_le 8 (length c.descrs)) none.third in
-    descr_after c name (unwrap_or rule Absent) coerce s order.1 limit.1
-sound_after c (statement.Array name home len) s e =
+    let short = either_false (is_long name) (is_none rule) limit.0 in
+    descr_after c name (unwrap_or rule Absent) coerce s (declared_name name spelled.0 short.0) none.second (given_rule rule spelled.1) order.1 limit.1
+sound_after c (statement.Array name home len) s spelled e =
     let none = faultless c (statement.Array name home len) e in
     let order = either_false c.ended (nat_lt 0 (length c.tasks)) none.first in
     let names = either_false (is_known c.names name) (is_none (descr_number c home)) none.second in
     let limit = either_false (is_long name || nat_le 64 (length c.arrays)) (passes_entries (entries_of c.arrays (home_number c home)) len) none.third in
     let few = either_false (is_long name) (nat_le 64 (length c.arrays)) limit.0 in
-    array_after c name home len s order.1 few.1 names.1 limit.1
-sound_after c statement.Task s e = let none = faultless c statement.Task e in task_after c s none.third
-sound_after c (statement.Set name items) s e =
+    array_after c name home len s (declared_name name spelled few.0) names.0 order.1 few.1 names.1 limit.1
+sound_after c statement.Task s spelled e = let none = faultless c statement.Task e in task_after c s none.third
+sound_after c (statement.Set name items) s spelled e =
     let none = faultless c (statement.Set name items) e in
     let order = either_false c.ended (not (nat_lt 0 (length c.tasks))) none.first in
     let limit = either_false (is_none items) (nat_le 1024 c.calls) none.third in
     call_after c (set_call (used c name) (used_length c name) (unwrap_or items [])) s order.1 limit.1
-    (whole_after c name s none.second, list_fits items (used_length c name) limit.0 none.fourth)
-sound_after c (statement.Show name) s e =
+    (whole_after c name s none.second, list_fits items (used_length c name) limit.0 none.fourth, list_is items limit.0 spelled)
+sound_after c (statement.Show name) s spelled e =
     let none = faultless c (statement.Show name) e in
     let order = either_false c.ended (not (nat_lt 0 (length c.tasks))) none.first in
     call_after c (show_call (used c name) (used_length c name)) s order.1 none.third (whole_after c name s none.second)
-sound_after c statement.End s e = record { sound = s.sound; counted = s.counted }
+sound_after c statement.End s spelled e = record { sound = s.sound; counted = s.counted }

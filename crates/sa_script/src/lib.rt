@@ -30,8 +30,8 @@
 //!
 //! Contracts see a script as its declarations, their names and its tasks' calls. `parse` answers the
 //! script or the fault that the definition of a script's meaning gives, or that there is no memory.
-//! Each script keeps the limits, and each of its calls is valid under its declarations. The types of
-//! calls and replies stand here until the crate of calls takes them.
+//! Each script keeps the limits, its names and texts are such, and each of its calls is valid under
+//! its declarations. The types of calls and replies stand here until the crate of calls takes them.
 #![tactic(auto)]
 
 mod call;

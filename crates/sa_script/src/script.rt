@@ -6,8 +6,8 @@ use crate::decls::Decls;
 use crate::names::Names;
 use std::marker::Model;
 
-/// A script: what it declares, the names, and its tasks' calls. Each call is valid under the
-/// declarations.
+/// A script: what it declares, the names, and its tasks' calls. The limits hold, names and texts are
+/// such, and each call is valid under the declarations.
 #[derive(Drop)]
 pub struct Script {
     decls: Decls,
@@ -53,7 +53,10 @@ impl Script {
         &self.names
     }
 
-    /// The calls of each task.
+    /// The calls of each task. Of the whole script it says what each keeps: declarations, tasks and
+    /// calls are within the limits; a name is spelled as one, is short enough, and no other is the
+    /// same; the text of a rule is a text; a call is valid under the declarations, and a literal list
+    /// has at least one item and only texts and missing values.
     pub fn tasks(&self) -> &TaskList
         ensures tasks { result.now ≡ self.now.tasks }
         ensures sound { IsSound self.now.decls self.now.names self.now.tasks }

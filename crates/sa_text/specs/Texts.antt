@@ -1,6 +1,7 @@
 -- Texts as lists of code points (Unicode scalar values, as Python's str), and the bytes that are one.
-use Rattle.std.specs.Prelude.{◌≡◌, ℕ, List, length, nat_le, if◌then◌else◌, Result, Ok, Err, encode_utf8_all, IsOk}
+use Rattle.std.specs.Prelude.{◌≡◌, ◌≤◌, ℕ, true, List, length, nat_le, if◌then◌else◌, Result, Ok, Err, encode_utf8_all, IsOk}
 use Rattle.std.specs.Str.{chars, is_utf8}
+use Rattle.std.proofs.Math.Utf8.{scalars}
 use Rattle.sa_text.specs.declared.text_error.TextError.{TextError}
 use Rattle.sa_text.specs.declared.text_error.TextError.TheVariants as errors
 
@@ -11,6 +12,11 @@ most_bytes = 65536
 -- the length of a text's UTF-8
 abbrev pub text_size : List ℕ → ℕ
 text_size text = length (encode_utf8_all text)
+
+-- the code points are a text: each is a Unicode scalar value, and their UTF-8 is within the limit
+pub record IsText (text : List ℕ) : Type 0 where
+  pub scalars : scalars text ≡ true
+  pub size : text_size text ≤ most_bytes
 
 -- the text that the bytes are, or why they are none
 abbrev pub text_of : List ℕ → Result (List ℕ) TextError

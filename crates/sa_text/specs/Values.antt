@@ -1,7 +1,7 @@
 -- Values, their weights, and the item that a value is.
 use Rattle.std.specs.Prelude.{ℕ, ◌+◌, List, [], ◌∷◌, replicate, sum_by, Bool, true, false}
 use Rattle.sa_base.specs.Items.{Item, MissingItem, TextItem, IntegerItem, FlagItem, BytesItem, UnitsItem}
-use Rattle.sa_text.specs.Texts.{text_size}
+use Rattle.sa_text.specs.Texts.{text_size, IsText}
 use Rattle.sa_text.specs.declared.value.Value.{Value}
 use Rattle.sa_text.specs.declared.value.Value.TheVariants.{Missing, Of}
 
@@ -24,6 +24,11 @@ stretched count (v ∷ w ∷ vs) = v ∷ w ∷ vs
 abbrev pub is_missing : Value → Bool
 is_missing Missing = true
 is_missing (Of text) = false
+
+-- the text of a value that is not missing is a text
+abbrev pub IsTextValue : Value → Type 0
+IsTextValue Missing = Unit {0}
+IsTextValue (Of text) = IsText text
 
 -- the item that a value is
 abbrev pub item_of : Value → Item

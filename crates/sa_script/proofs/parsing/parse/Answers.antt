@@ -1,8 +1,17 @@
-use Rattle.std.proofs.Common.{◌≡◌, sym, ap, ◌∙◌, Ok, arith}
+use Rattle.std.proofs.Common.{◌≡◌, sym, ap, subst, ◌∙◌, Ok, arith}
 use Rattle.sa_lines.specs.Lines.{lines_of}
 use Rattle.sa_script.specs.Scripts.{judged, line_after}
+use Rattle.sa_script.specs.Sound.{IsSoundContext}
 use Rattle.sa_script.proofs.LineLemmas.{judged_on}
+use Rattle.sa_script.proofs.SoundLemmas.{sound_nothing}
 use Rattle.sa_script.proofs.parsing.parse.Goals as goal
+
+pub lines-init : goal.lines-init
+lines-init c = record {
+  read = ap (λ d. judged d 0 (lines_of c.args.bytes.now)) c.new-context.ensures;
+  sound = subst IsSoundContext (sym c.new-context.ensures) sound_nothing;
+  counted = omega arith;
+}
 
 pub lines-preserved : goal.lines-preserved
 lines-preserved c =

@@ -5,6 +5,7 @@ use Rattle.sa_script.specs.Statements.{statement_of}
 use Rattle.sa_script.specs.Sound.{IsSoundContext}
 use Rattle.sa_script.proofs.LineLemmas.{line_after_taken}
 use Rattle.sa_script.proofs.SoundLemmas.{sound_after}
+use Rattle.sa_script.proofs.SpelledLemmas.{statement_spelled}
 use Rattle.sa_script.proofs.context.Context.line.Goals as goal
 
 pub returns-clause-line : goal.returns-clause-line
@@ -17,5 +18,7 @@ returns-clause-line c =
 
 pub returns-clause-sound : goal.returns-clause-sound
 returns-clause-sound c =
-    λ _. let faultless : fault_of c.args.self.now c.in-Some.statement ≡ None = sym c.fault_of.ensures ∙ c.in_default-fault_of.is in
-    subst IsSoundContext (sym c.in_ok-take.ensures) (sound_after c.args.self.now c.in-Some.statement c.requires faultless)
+    λ _. let spelled : statement_of (tokens_of c.args.line.now) ≡ Some c.in-Some.statement = sym (rw c.in-Some.is at c.in_ok-statement.ensures) in
+    let faultless : fault_of c.args.self.now c.in-Some.statement ≡ None = sym c.fault_of.ensures ∙ c.in_default-fault_of.is in
+    subst IsSoundContext (sym c.in_ok-take.ensures)
+    (sound_after c.args.self.now c.in-Some.statement c.requires (statement_spelled (tokens_of c.args.line.now) c.in-Some.statement spelled) faultless)

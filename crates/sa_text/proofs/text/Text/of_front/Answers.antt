@@ -1,9 +1,6 @@
 -- Short ASCII is a text.
-use Rattle.std.proofs.Common.{◌≡◌, ◌≤◌, Ok, true, length, take, refl, sym, ap, ◌∙◌, arith}
-use Rattle.std.specs.Char.{is_ascii}
-use Rattle.std.specs.List.{list_all}
+use Rattle.std.proofs.Common.{Ok, take, refl, sym, ap, ◌∙◌, arith}
 use Rattle.std.proofs.lemmas.List.{length-take-le}
-use Rattle.sa_text.specs.Texts.{most_bytes}
 use Rattle.sa_text.proofs.TextLemmas.{ascii-utf8, text_of-utf8}
 use Rattle.sa_text.proofs.text.Text.of_front.Goals as goal
 

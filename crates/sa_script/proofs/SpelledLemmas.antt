@@ -1,0 +1,220 @@
+-- What a line spells: its names are names, its texts are texts, and its list is a literal where it passes no limit.
+use Rattle.std.proofs.Common.{◌≡◌, ℕ, zero, suc, Bool, true, false, cond, ◌&&◌, not, eqb, nat_lt, List, [], ◌∷◌, ◌++◌, length, Option, Some, None, option_map, Result, Ok, Err, codes, refl, subst, arith, length-append}
+use Rattle.std.specs.List.{AllByRecursion}
+use Rattle.std.specs.Option.{IfSome}
+use Rattle.std.proofs.lemmas.Option.{same_Some}
+use Rattle.sa_lines.specs.Options.{◌>>=◌}
+use Rattle.sa_lines.specs.Quotes.{quoted_at}
+use Rattle.sa_lines.specs.Tokens.{is_word}
+use Rattle.sa_text.specs.Texts.{text_of, IsText}
+use Rattle.sa_text.specs.Values.{IsTextValue}
+use Rattle.sa_text.specs.declared.text_error.TextError.{TextError}
+use Rattle.sa_text.specs.declared.text_error.TextError.TheVariants as errors
+use Rattle.sa_text.specs.declared.value.Value.{Value}
+use Rattle.sa_text.specs.declared.value.Value.TheVariants.{Missing}
+use Rattle.sa_text.proofs.TextLemmas.{text_of-text}
+use Rattle.sa_plain.specs.declared.items.Items.TheVariants.{Values}
+use Rattle.sa_descr.specs.declared.descr.NaRule.{NaRule}
+use Rattle.sa_descr.specs.declared.descr.NaRule.TheVariants.{Absent, Nan, Other, Txt}
+use Rattle.sa_script.specs.declared.statement.Statement.{Statement}
+use Rattle.sa_script.specs.declared.statement.Statement.TheVariants as statement
+use Rattle.sa_script.specs.Items.{fitting, text_at, nothing_left, text_token, of_text, missing_at, item_at, one_more, uncons, further_at, items_at, list_of}
+use Rattle.sa_script.specs.Limits.{most_items}
+use Rattle.sa_script.specs.Names.{name_of, is_name, is_reserved}
+use Rattle.sa_script.specs.Sound.{IsLiteral, IsRule}
+use Rattle.sa_script.specs.Statements.{text_rule_of, rule_of, coerce_of, descr_of, length_of, array_of, set_of, show_of, alone, statement_of}
+use Rattle.sa_script.proofs.ListLemmas.{all_push}
+
+-- what holds of a statement that tokens spell
+abbrev pub IsSpelled : Statement → Type 0
+IsSpelled (statement.Descr name rule coerce) = (name_of name ≡ Some name) × IfSome rule IsRule
+IsSpelled (statement.Array name home len) = name_of name ≡ Some name
+IsSpelled statement.Task = Unit {0}
+IsSpelled (statement.Set name items) = IfSome items (λ (values : List Value). IsLiteral (Values values))
+IsSpelled (statement.Show name) = Unit {0}
+IsSpelled statement.End = Unit {0}
+
+-- what was read of a reading after another, and of a choice of two
+record Bound {A B : Type 0} (o : Option A) (f : A → Option B) (y : B) : Type 0 where
+  value : A
+  first : o ≡ Some value
+  then : f value ≡ Some y
+
+bound : {A B : Type 0} (o : Option A) (f : A → Option B) (y : B) → (o >>= f) ≡ Some y → Bound o f y
+bound None f y e = cc
+bound (Some x) f y e = record { value = x; first = refl; then = e }
+
+chosen : {A : Type 0} (b : Bool) (o p : Option A) (y : A) (P : A → Type 0) → (o ≡ Some y → P y) → (p ≡ Some y → P y) → cond b o p ≡ Some y → P y
+chosen true o p y P f g e = f e
+chosen false o p y P f g e = g e
+
+-- names
+name_again : (token name : List ℕ) (b : Bool) → name_of token ≡ cond b (Some token) None → cond b (Some token) None ≡ Some name → name_of name ≡ Some name
+name_again token name false is e = cc
+name_again token name true is e = let same = same_Some token name e in subst (λ n. name_of n ≡ Some n) same is
+
+name_spelled : (token name : List ℕ) → name_of token ≡ Some name → name_of name ≡ Some name
+name_spelled token name e = name_again token name (is_name token && not (is_reserved token)) refl e
+
+-- texts
+fitting_text : (read : Result (List ℕ) TextError) (text : Option (List ℕ)) (P : List ℕ → Type 0) → ((t : List ℕ) → read ≡ Ok t → P t) → fitting read ≡ Some text → IfSome text P
+fitting_text (Ok t) text P all e = subst (λ o. IfSome o P) (same_Some (Some t) text e) (all t refl)
+fitting_text (Err errors.TooLong) text P all e = subst (λ o. IfSome o P) (same_Some None text e) tt
+fitting_text (Err errors.NotUtf8) text P all e = cc
+fitting_text (Err errors.Memory) text P all e = cc
+
+text_at_text : (bs : List ℕ) (t : Option (List ℕ) × List ℕ) → text_at bs ≡ Some t → IfSome t.0 IsText
+text_at_text bs t e =
+    let q = bound (quoted_at bs) _ t e in
+    let f = bound (fitting (text_of q.value.0)) _ t q.then in
+    let is = fitting_text (text_of q.value.0) f.value IsText (λ text read. text_of-text q.value.0 text read) f.first in
+    subst (λ (x : Option (List ℕ) × List ℕ). IfSome x.0 IsText) (same_Some _ t f.then) is
+
+nothing_left_is : {A : Type 0} (a : A) (bs : List ℕ) (x : A) → nothing_left (a, bs) ≡ Some x → a ≡ x
+nothing_left_is a [] x e = same_Some a x e
+nothing_left_is a (b ∷ bs) x e = cc
+
+text_token_text : (token : List ℕ) (text : Option (List ℕ)) → text_token token ≡ Some text → IfSome text IsText
+text_token_text token text e =
+    let t = bound (text_at token) nothing_left text e in
+    subst (λ o. IfSome o IsText) (nothing_left_is t.value.0 t.value.1 text t.then) (text_at_text token t.value t.first)
+
+-- items
+of_text_value : (text : Option (List ℕ)) → IfSome text IsText → IfSome (of_text text) IsTextValue
+of_text_value None is = tt
+of_text_value (Some text) is = is
+
+missing_value : (bs : List ℕ) (i : Option Value × List ℕ) → missing_at bs ≡ Some i → IfSome i.0 IsTextValue
+missing_value [] i e = cc
+missing_value (b ∷ bs) i e =
+    chosen (eqb b 97) (Some (Some Missing, bs)) None i (λ (x : Option Value × List ℕ). IfSome x.0 IsTextValue)
+    (λ f. subst (λ (x : Option Value × List ℕ). IfSome x.0 IsTextValue) (same_Some _ i f) tt) (λ f. cc) e
+
+item_value : (bs : List ℕ) (i : Option Value × List ℕ) → item_at bs ≡ Some i → IfSome i.0 IsTextValue
+item_value [] i e = cc
+item_value (b ∷ bs) i e =
+    chosen (eqb b 110) (missing_at bs) (text_at (b ∷ bs) >>= λ t. Some (of_text t.0, t.1)) i (λ (x : Option Value × List ℕ). IfSome x.0 IsTextValue)
+    (λ f. missing_value bs i f)
+    (λ f.
+        let t = bound (text_at (b ∷ bs)) _ i f in
+        subst (λ (x : Option Value × List ℕ). IfSome x.0 IsTextValue) (same_Some _ i t.then) (of_text_value t.value.0 (text_at_text (b ∷ bs) t.value t.first)))
+    e
+
+-- lists
+abbrev AreTexts : Option (List Value) → Type 0
+AreTexts items = IfSome items (AllByRecursion IsTextValue)
+
+abbrev IsList : Option (List Value) → Type 0
+IsList items = IfSome items (λ (values : List Value). IsLiteral (Values values))
+
+list_texts : (items : Option (List Value)) → IsList items → AreTexts items
+list_texts None is = tt
+list_texts (Some values) is = is.texts
+
+pushed : (b : Bool) (values : List Value) (value : Value) → AllByRecursion IsTextValue values → IsTextValue value → IsList (cond b (Some (values ++ value ∷ [])) None)
+pushed false values value before text = tt
+pushed true values value before text =
+    let longer = length-append values (value ∷ []) in
+    record { some = omega arith; texts = all_push IsTextValue values value before text }
+
+one_more_list : (items : Option (List Value)) (item : Option Value) → AreTexts items → IfSome item IsTextValue → IsList (one_more items item)
+one_more_list None item before text = tt
+one_more_list (Some values) None before text = tt
+one_more_list (Some values) (Some value) before text = pushed (nat_lt (length values) most_items) values value before text
+
+further_list : (so_far : Option (List Value)) (bs : List ℕ) (f : Option (List Value) × ℕ × List ℕ) → AreTexts so_far → further_at so_far bs ≡ Some f → IsList f.0
+further_list so_far bs f before e =
+    let i = bound (item_at bs) _ f e in
+    let r = bound (uncons i.value.1) _ f i.then in
+    subst (λ (x : Option (List Value) × ℕ × List ℕ). IsList x.0) (same_Some _ f r.then) (one_more_list so_far i.value.0 before (item_value bs i.value i.first))
+
+items_list : (left : ℕ) (so_far : Option (List Value)) (bs : List ℕ) (r : Option (List Value) × List ℕ) → AreTexts so_far → items_at left so_far bs ≡ Some r → IsList r.0
+items_list zero so_far bs r before e = cc
+items_list (suc left) so_far bs r before e =
+    let f = bound (further_at so_far bs) _ r e in
+    let is = further_list so_far bs f.value before f.first in
+    chosen (eqb f.value.1 44) (items_at left f.value.0 f.value.2) (cond (eqb f.value.1 41) (Some (f.value.0, f.value.2)) None) r (λ (x : Option (List Value) × List ℕ). IsList x.0)
+    (λ more. items_list left f.value.0 f.value.2 r (list_texts f.value.0 is) more)
+    (λ last. chosen (eqb f.value.1 41) (Some (f.value.0, f.value.2)) None r (λ (x : Option (List Value) × List ℕ). IsList x.0)
+        (λ end. subst (λ (x : Option (List Value) × List ℕ). IsList x.0) (same_Some _ r end) is) (λ none. cc) last)
+    f.then
+
+list_spelled : (token : List ℕ) (items : Option (List Value)) → list_of token ≡ Some items → IsList items
+list_spelled [] items e = cc
+list_spelled (b ∷ bs) items e =
+    chosen (eqb b 40) (items_at (length bs) (Some []) bs >>= nothing_left) (item_at (b ∷ bs) >>= λ i. nothing_left (one_more (Some []) i.0, i.1)) items IsList
+    (λ f.
+        let r = bound (items_at (length bs) (Some []) bs) nothing_left items f in
+        subst IsList (nothing_left_is r.value.0 r.value.1 items r.then) (items_list (length bs) (Some []) bs r.value tt r.first))
+    (λ f.
+        let i = bound (item_at (b ∷ bs)) _ items f in
+        subst IsList (nothing_left_is (one_more (Some []) i.value.0) i.value.1 items i.then) (one_more_list (Some []) i.value.0 tt (item_value (b ∷ bs) i.value i.first)))
+    e
+
+-- rules
+abbrev IsRead : Option NaRule × List (List ℕ) → Type 0
+IsRead r = IfSome r.0 IsRule
+
+txt_rule : (text : Option (List ℕ)) → IfSome text IsText → IfSome (option_map Txt text) IsRule
+txt_rule None is = tt
+txt_rule (Some text) is = is
+
+text_rule_spelled : (ts : List (List ℕ)) (r : Option NaRule × List (List ℕ)) → text_rule_of ts ≡ Some r → IsRead r
+text_rule_spelled [] r e = cc
+text_rule_spelled (t ∷ ts) r e =
+    let text = bound (text_token t) _ r e in
+    subst IsRead (same_Some _ r text.then) (txt_rule text.value (text_token_text t text.value text.first))
+
+rule_spelled : (ts : List (List ℕ)) (r : Option NaRule × List (List ℕ)) → rule_of ts ≡ Some r → IsRead r
+rule_spelled [] r e = cc
+rule_spelled (t ∷ ts) r e =
+    chosen (is_word (codes "absent") t) (Some (Some Absent, ts)) _ r IsRead (λ f. subst IsRead (same_Some (Some Absent, ts) r f) tt)
+    (chosen (is_word (codes "nan") t) (Some (Some Nan, ts)) _ r IsRead (λ f. subst IsRead (same_Some (Some Nan, ts) r f) tt)
+    (chosen (is_word (codes "other") t) (Some (Some Other, ts)) _ r IsRead (λ f. subst IsRead (same_Some (Some Other, ts) r f) tt)
+    (chosen (is_word (codes "text") t) (text_rule_of ts) None r IsRead (λ f. text_rule_spelled ts r f) (λ f. cc)))) e
+
+-- statements
+descr_spelled : (ts : List (List ℕ)) (s : Statement) → descr_of ts ≡ Some s → IsSpelled s
+descr_spelled [] s e = cc
+descr_spelled (n ∷ ts) s e =
+    let name = bound (name_of n) _ s e in
+    let rule = bound (rule_of ts) _ s name.then in
+    let coerce = bound (coerce_of rule.value.1) _ s rule.then in
+    subst IsSpelled (same_Some _ s coerce.then) (name_spelled n name.value name.first, rule_spelled ts rule.value rule.first)
+
+array_spelled : (ts : List (List ℕ)) (s : Statement) → array_of ts ≡ Some s → IsSpelled s
+array_spelled [] s e = cc
+array_spelled (n ∷ []) s e = cc
+array_spelled (n ∷ d ∷ ts) s e =
+    let name = bound (name_of n) _ s e in
+    let home = bound (name_of d) _ s name.then in
+    let len = bound (length_of ts) _ s home.then in
+    subst IsSpelled (same_Some _ s len.then) (name_spelled n name.value name.first)
+
+set_spelled : (ts : List (List ℕ)) (s : Statement) → set_of ts ≡ Some s → IsSpelled s
+set_spelled [] s e = cc
+set_spelled (v ∷ []) s e = cc
+set_spelled (v ∷ l ∷ []) s e =
+    let name = bound (name_of v) _ s e in
+    let items = bound (list_of l) _ s name.then in
+    subst IsSpelled (same_Some _ s items.then) (list_spelled l items.value items.first)
+set_spelled (v ∷ l ∷ t ∷ ts) s e = cc
+
+show_spelled : (ts : List (List ℕ)) (s : Statement) → show_of ts ≡ Some s → IsSpelled s
+show_spelled [] s e = cc
+show_spelled (v ∷ []) s e = let name = bound (name_of v) _ s e in subst IsSpelled (same_Some _ s name.then) tt
+show_spelled (v ∷ t ∷ ts) s e = cc
+
+alone_spelled : (word : Statement) (ts : List (List ℕ)) (s : Statement) → IsSpelled word → alone word ts ≡ Some s → IsSpelled s
+alone_spelled word [] s is e = subst IsSpelled (same_Some word s e) is
+alone_spelled word (t ∷ ts) s is e = cc
+
+pub statement_spelled : (tokens : List (List ℕ)) (s : Statement) → statement_of tokens ≡ Some s → IsSpelled s
+statement_spelled [] s e = cc
+statement_spelled (w ∷ ts) s e =
+    chosen (is_word (codes "descr") w) (descr_of ts) _ s IsSpelled (λ f. descr_spelled ts s f)
+    (chosen (is_word (codes "array") w) (array_of ts) _ s IsSpelled (λ f. array_spelled ts s f)
+    (chosen (is_word (codes "task") w) (alone statement.Task ts) _ s IsSpelled (λ f. alone_spelled statement.Task ts s tt f)
+    (chosen (is_word (codes "set") w) (set_of ts) _ s IsSpelled (λ f. set_spelled ts s f)
+    (chosen (is_word (codes "show") w) (show_of ts) _ s IsSpelled (λ f. show_spelled ts s f)
+    (chosen (is_word (codes "end") w) (alone statement.End ts) None s IsSpelled (λ f. alone_spelled statement.End ts s tt f) (λ f. cc)))))) e
