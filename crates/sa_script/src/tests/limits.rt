@@ -22,8 +22,8 @@ fn push_piece(out: &mut Vec<u8>, piece: &str, number: u64) -> Result<(), Memory>
     Ok(())
 }
 
-/// Parses a row's script, with these lines in front of it and an end behind it.
-fn row_fault(alloc: Global, front: &str, row: &Row<'_>) -> Result<(u8, u64), Fail> {
+/// A row's script, with these lines in front of it and an end behind it.
+fn script_of(alloc: Global, front: &str, row: &Row<'_>) -> Result<Vec<u8>, Memory> {
     let (before, piece, count, after, _) = *row;
     let mut bytes = Vec::new(alloc);
     bytes.extend_from_slice(front.as_bytes())?;
@@ -33,6 +33,12 @@ fn row_fault(alloc: Global, front: &str, row: &Row<'_>) -> Result<(u8, u64), Fai
     }
     bytes.extend_from_slice(after.as_bytes())?;
     bytes.extend_from_slice(b"\nend\n")?;
+    Ok(bytes)
+}
+
+/// The fault of a row's script.
+fn row_fault(alloc: Global, front: &str, row: &Row<'_>) -> Result<(u8, u64), Fail> {
+    let bytes = script_of(alloc, front, row)?;
     Ok(fault_of(alloc, &bytes)?)
 }
 

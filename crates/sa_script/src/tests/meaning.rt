@@ -61,23 +61,23 @@ fn descrs_of(script: &Script) -> &[Descr] {
     script.decls().descrs()
 }
 
-/// Whether a row's descriptor is among these.
-fn has_descr(descrs: &[Descr], row: &DescrRow) -> bool {
-    let (number, _, rule, coerce) = *row;
-    let Some(descr) = descrs.get(usize::from(number)) else {
+/// Whether a script has a row's descriptor.
+fn has_descr(script: &Script, row: &DescrRow) -> bool {
+    let (number, name, rule, coerce) = *row;
+    let Some(descr) = descrs_of(script).get(usize::from(number)) else {
         return false;
     };
-    rule_text(&descr.na) == rule.as_bytes() && descr.coerce == coerce
+    is_descr_named(script, number, name)
+        && rule_text(&descr.na) == rule.as_bytes()
+        && descr.coerce == coerce
 }
 
 /// The descriptors are these and no others.
 fn try_descrs(rt: &impl Abort, script: &Script) {
-    let descrs = descrs_of(script);
     for row in DESCRS {
-        assert!(rt; is_descr_named(script, row.0, row.1), "{row:?}");
-        assert!(rt; has_descr(descrs, row), "{row:?}");
+        assert!(rt; has_descr(script, row), "{}", row.1);
     }
-    assert_eq!(rt; descrs.len(), DESCRS.len());
+    assert!(rt; descrs_of(script).len() == DESCRS.len());
     assert!(rt; script.names().descr(4).is_none());
 }
 
@@ -96,23 +96,24 @@ fn arrays_of(script: &Script) -> &[ArrayDecl] {
     script.decls().arrays()
 }
 
-/// Whether a row's array, one of texts, is among these.
-fn has_array(arrays: &[ArrayDecl], row: &ArrayRow) -> bool {
-    let (number, _, home, len) = *row;
-    match arrays.get(number as usize) {
-        Some(array) => array.home == home && array.kind == Kind::Str && array.len == len,
-        None => false,
-    }
+/// Whether a script has a row's array, one of texts.
+fn has_array(script: &Script, row: &ArrayRow) -> bool {
+    let (number, name, home, len) = *row;
+    let Some(array) = arrays_of(script).get(number as usize) else {
+        return false;
+    };
+    is_array_named(script, number, name)
+        && array.home == home
+        && array.kind == Kind::Str
+        && array.len == len
 }
 
 /// The arrays are these and no others.
 fn try_arrays(rt: &impl Abort, script: &Script) {
-    let arrays = arrays_of(script);
     for row in ARRAYS {
-        assert!(rt; is_array_named(script, row.0, row.1), "{row:?}");
-        assert!(rt; has_array(arrays, row), "{row:?}");
+        assert!(rt; has_array(script, row), "{}", row.1);
     }
-    assert_eq!(rt; arrays.len(), ARRAYS.len());
+    assert!(rt; arrays_of(script).len() == ARRAYS.len());
     assert!(rt; script.names().array(3).is_none());
 }
 
@@ -204,9 +205,9 @@ fn has_task(tasks: &[CallList], row: &TaskRow) -> bool {
 /// The tasks are these and no others.
 fn try_tasks(rt: &impl Abort, tasks: &[CallList]) {
     for row in TASKS {
-        assert!(rt; has_task(tasks, row), "{row:?}");
+        assert!(rt; has_task(tasks, row), "{}", row.0);
     }
-    assert_eq!(rt; tasks.len(), TASKS.len());
+    assert!(rt; tasks.len() == TASKS.len());
 }
 
 /// A call of the script that sets: the numbers of the task and of the call there, the number of the
