@@ -91,10 +91,10 @@ lines_of-three a b c rest lines_again h k l =
 
 -- a report's second and third line hold its history and its marks
 pub names_again : LinesAgain → TokensAgain → StrictIsDecimal → DecimalInFront → NamesItsHistory
-names_again lines_again tokens_again strict in_front plan history marks replies contents stats h k =
+names_again lines_again tokens_again strict in_front script history marks replies contents stats h k =
     let first : List ℕ = codes "history" ++ flat_map spaced_pair history in
     let second : List ℕ = codes "marked" ++ flat_map spaced_pair marks in
-    let lines = lines_of-three (codes "report 1") first second (report_rest plan history marks replies contents stats) lines_again refl (no_controls-pairs history h) (no_controls-pairs marks k) in (
+    let lines = lines_of-three (codes "report 1") first second (report_rest script history marks replies contents stats) lines_again refl (no_controls-pairs history h) (no_controls-pairs marks k) in (
       ap (λ ls. pairs_of (slice_index_or ls 1 [])) lines ∙ pairs_of-line (codes "history") history tokens_again strict in_front refl h,
       ap (λ ls. pairs_of (slice_index_or ls 2 [])) lines ∙ pairs_of-line (codes "marked") marks tokens_again strict in_front refl k,
     )

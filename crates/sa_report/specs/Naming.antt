@@ -8,7 +8,7 @@ use Rattle.sa_lines.specs.Options.{◌>>=◌}
 use Rattle.sa_lines.specs.Tokens.{tokens_of}
 use Rattle.sa_plain.specs.declared.items.Items.{Items}
 use Rattle.sa_script.specs.declared.reply.Reply.{Reply}
-use Rattle.sa_script.specs.Scripts.{Plan}
+use Rattle.sa_script.specs.Scripts.{ScriptValue}
 use Rattle.sa_report.specs.Reports.{report_of}
 
 -- what follows a colon at the front
@@ -37,6 +37,6 @@ IsShort p = (p.0 < 2 ^ 64) × (p.1 < 2 ^ 64)
 
 -- a report names its history and its marks
 abbrev pub NamesItsHistory : Type 0
-NamesItsHistory = (plan : Plan) (history marks : List (ℕ × ℕ)) (replies : List Reply) (contents : List Items) (stats : List Stats)
+NamesItsHistory = (script : ScriptValue) (history marks : List (ℕ × ℕ)) (replies : List Reply) (contents : List Items) (stats : List Stats)
     → AllByRecursion IsShort history → AllByRecursion IsShort marks
-    → (history_named (report_of plan history marks replies contents stats) ≡ map Some history) × (marks_named (report_of plan history marks replies contents stats) ≡ map Some marks)
+    → (history_named (report_of script history marks replies contents stats) ≡ map Some history) × (marks_named (report_of script history marks replies contents stats) ≡ map Some marks)

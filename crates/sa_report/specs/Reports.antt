@@ -8,7 +8,7 @@ use Rattle.sa_plain.specs.Written.{list_bytes}
 use Rattle.sa_script.specs.declared.call.Call.{Call}
 use Rattle.sa_script.specs.declared.reply.Reply.{Reply}
 use Rattle.sa_script.specs.declared.reply.Reply.TheVariants.{Done, Shown, Refused}
-use Rattle.sa_script.specs.Scripts.{Plan}
+use Rattle.sa_script.specs.Scripts.{ScriptValue}
 use Rattle.sa_report.specs.Histories.{is_among}
 
 -- a reply
@@ -86,12 +86,12 @@ stats_lines (n ∷ ns) [] = []
 stats_lines (n ∷ ns) (s ∷ ss) = stats_line n s ++ stats_lines ns ss
 
 -- what stands behind the line of marks
-abbrev pub report_rest : Plan → List (ℕ × ℕ) → List (ℕ × ℕ) → List Reply → List Items → List Stats → List ℕ
-report_rest plan history marks replies contents stats = task_lines history marks replies 0 plan.tasks ++ (array_lines plan.names.arrays contents ++ (stats_lines plan.names.descrs stats ++ line (codes "end")))
+abbrev pub report_rest : ScriptValue → List (ℕ × ℕ) → List (ℕ × ℕ) → List Reply → List Items → List Stats → List ℕ
+report_rest script history marks replies contents stats = task_lines history marks replies 0 script.tasks ++ (array_lines script.names.arrays contents ++ (stats_lines script.names.descrs stats ++ line (codes "end")))
 
 -- The report of a script with a history and marks, the replies in the order of the history, the final contents of the arrays and the statistics of the descriptors' allocators, both in order of declaration.
-abbrev pub report_of : Plan → List (ℕ × ℕ) → List (ℕ × ℕ) → List Reply → List Items → List Stats → List ℕ
-report_of plan history marks replies contents stats = line (codes "report 1") ++ (history_line history ++ (marked_line marks ++ report_rest plan history marks replies contents stats))
+abbrev pub report_of : ScriptValue → List (ℕ × ℕ) → List (ℕ × ℕ) → List Reply → List Items → List Stats → List ℕ
+report_of script history marks replies contents stats = line (codes "report 1") ++ (history_line history ++ (marked_line marks ++ report_rest script history marks replies contents stats))
 
 -- the line for a faulty script
 abbrev pub fault_line : ℕ → ℕ → List ℕ

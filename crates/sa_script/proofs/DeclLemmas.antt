@@ -5,8 +5,7 @@ use Rattle.std.proofs.lemmas.List.Sums.{sum_by_more_le}
 use Rattle.std.proofs.lemmas.Bool.{lt-ltb}
 use Rattle.sa_script.specs.declared.decls.ArrayDecl.{ArrayDecl}
 use Rattle.sa_script.specs.declared.decls.Kind.TheVariants as kind
-use Rattle.sa_script.specs.Contexts.{length_at, array_at}
-use Rattle.sa_script.specs.Decls.{entries_of, entries_at}
+use Rattle.sa_script.specs.Decls.{entries_of, entries_at, length_at, array_at}
 
 pub length_at_past : (arrays : List ArrayDecl) (k : ℕ) → length arrays ≤ k → length_at arrays k ≡ 0
 length_at_past arrays k past = ap (λ (a : ArrayDecl). a.len) (get_or_past arrays k (record { home = 0; kind = kind.Str; len = 0 }) past)

@@ -70,4 +70,4 @@ distinct_array k name d e =
     let names = k.descrs ++ k.arrays in
     subst (IsDistinct bytes_eq) (append_assoc k.descrs k.arrays (name ∷ []))
     (subst (IsDistinct bytes_eq) (append-nil (names ++ name ∷ []))
-        (distinct_between names [] name (subst (IsDistinct bytes_eq) (sym (append-nil names)) d) (all_joined (λ n. bytes_eq n name ≡ false) k.descrs k.arrays new.descrs new.arrays) tt))
+    (distinct_between names [] name (subst (IsDistinct bytes_eq) (sym (append-nil names)) d) (all_joined (λ n. bytes_eq n name ≡ false) k.descrs k.arrays new.descrs new.arrays) tt))

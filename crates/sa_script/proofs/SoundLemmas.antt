@@ -17,11 +17,12 @@ use Rattle.sa_script.specs.declared.decls.ArrayDecl.{ArrayDecl}
 use Rattle.sa_script.specs.declared.statement.Statement.{Statement}
 use Rattle.sa_script.specs.declared.statement.Statement.TheVariants as statement
 use Rattle.sa_script.specs.Calls.{with_call, whole, set_call, show_call, lengths_fit}
-use Rattle.sa_script.specs.Contexts.{nothing, after, with_descr, with_array, with_task, with_last, used, used_length, array_number, descr_number, home_number, number_in, is_known, allowed}
+use Rattle.sa_script.specs.Contexts.{nothing, context_after, with_descr, with_array, with_task, with_last, used_array, used_length, array_number, descr_number, home_number, number_in, is_known, length_allowed}
 use Rattle.sa_script.specs.Decls.{Declared, entries_of, entries_at}
 use Rattle.sa_script.specs.Faults.{fault_of, out_of_order, misnamed, over_limit, bad_lengths, count_in, passes_entries, is_long}
 use Rattle.sa_script.specs.Names.{name_of}
-use Rattle.sa_script.specs.Sound.{IsSoundContext, IsCall, AreCalls, IsWhole, IsDeclaredName, IsRule, HasTextRule, IsLiteral}
+use Rattle.sa_script.specs.Sound.{IsCall, AreCalls, IsWhole, IsDeclaredName, IsRule, HasTextRule, IsLiteral}
+use Rattle.sa_script.specs.SoundContexts.{IsSoundContext}
 use Rattle.sa_script.proofs.DistinctLemmas.{distinct_descr, distinct_array}
 use Rattle.sa_script.proofs.ListLemmas.{all_weaker, all_push}
 use Rattle.sa_script.proofs.SpelledLemmas.{IsSpelled}
@@ -62,7 +63,7 @@ no_calls d [] e = tt
 no_calls d (t ∷ ts) e = let few = ltb-false 0 (length (t ∷ ts)) e in absurd (omega arith)
 
 -- a length that passes no limit
-entry_fits : (before : ℕ) (length : Option ℤ) → passes_entries before length ≡ false → before + allowed length ≤ 8192
+entry_fits : (before : ℕ) (length : Option ℤ) → passes_entries before length ≡ false → before + length_allowed length ≤ 8192
 entry_fits before None e = cc
 entry_fits before (Some (pos n)) e = let within = ltb-false 8192 (before + n) e in omega arith
 entry_fits before (Some (negsuc n)) e = cc
@@ -107,7 +108,7 @@ descr_after c name rule coerce s named_so new text untasked few =
     }
 
 -- the entries of a descriptor with one more array
-entries_after : (arrays : List ArrayDecl) (home len : ℕ) (given : Option ℤ) (other : ℕ) → entries_of arrays other ≤ 8192 → passes_entries (entries_of arrays home) given ≡ false → len ≡ allowed given
+entries_after : (arrays : List ArrayDecl) (home len : ℕ) (given : Option ℤ) (other : ℕ) → entries_of arrays other ≤ 8192 → passes_entries (entries_of arrays home) given ≡ false → len ≡ length_allowed given
     → entries_of (arrays ++ (record { home = home; kind = kind.Str; len = len }) ∷ []) other ≤ 8192
 entries_after arrays home len given other within fits same =
     let whole = sum_by-append (entries_at other) arrays ((record { home = home; kind = kind.Str; len = len }) ∷ []) in
@@ -119,10 +120,10 @@ entries_after arrays home len given other within fits same =
 
 -- a further array
 array_after : (c : Context) (name home : List ℕ) (len : Option ℤ) → IsSoundContext c → IsDeclaredName name → is_known c.names name ≡ false → nat_lt 0 (length c.tasks) ≡ false → nat_le 64 (length c.arrays) ≡ false
-    → is_none (descr_number c home) ≡ false → passes_entries (entries_of c.arrays (home_number c home)) len ≡ false → IsSoundContext (with_array c name (home_number c home) (allowed len))
+    → is_none (descr_number c home) ≡ false → passes_entries (entries_of c.arrays (home_number c home)) len ≡ false → IsSoundContext (with_array c name (home_number c home) (length_allowed len))
 array_after c name home len s named_so new_name untasked few known fits =
     let d = s.sound.declared in
-    let new : ArrayDecl = record { home = home_number c home; kind = kind.Str; len = allowed len } in
+    let new : ArrayDecl = record { home = home_number c home; kind = kind.Str; len = length_allowed len } in
     let room = leb-false 64 (length c.arrays) few in
     let longer = length-append c.arrays (new ∷ []) in
     let named = length-append c.names.arrays (name ∷ []) in
@@ -133,7 +134,7 @@ array_after c name home len s named_so new_name untasked few known fits =
           homes = all_push (λ (a : ArrayDecl). a.home < length c.descrs) c.arrays new d.homes below;
           descrs = d.descrs;
           arrays = omega arith;
-          entries = λ other. entries_after c.arrays (home_number c home) (allowed len) len other (d.entries other) fits refl;
+          entries = λ other. entries_after c.arrays (home_number c home) (length_allowed len) len other (d.entries other) fits refl;
         };
         descr_names = s.sound.descr_names;
         array_names = let before = s.sound.array_names in omega arith;
@@ -214,9 +215,9 @@ call_after c call s tasked few valid =
     }
 
 -- the view of a whole used array
-whole_after : (c : Context) (name : List ℕ) → IsSoundContext c → is_none (array_number c name) ≡ false → IsWhole (record { descrs = c.descrs; arrays = c.arrays }) (whole (used c name) (used_length c name))
+whole_after : (c : Context) (name : List ℕ) → IsSoundContext c → is_none (array_number c name) ≡ false → IsWhole (record { descrs = c.descrs; arrays = c.arrays }) (whole (used_array c name) (used_length c name))
 whole_after c name s known = record {
-  declared = subst (λ n. used c name < n) s.sound.array_names (found_below c.names.arrays name known);
+  declared = subst (λ n. used_array c name < n) s.sound.array_names (found_below c.names.arrays name known);
   from_start = refl;
   all = refl;
   by_one = refl;
@@ -253,7 +254,7 @@ sound_nothing = record {
   counted = refl;
 }
 
-pub sound_after : (c : Context) (s : Statement) → IsSoundContext c → IsSpelled s → fault_of c s ≡ None → IsSoundContext (after c s)
+pub sound_after : (c : Context) (s : Statement) → IsSoundContext c → IsSpelled s → fault_of c s ≡ None → IsSoundContext (context_after c s)
 sound_after c (statement.Descr name rule coerce) s spelled e =
     let none = faultless c (statement.Descr name rule coerce) e in
     let order = either_false c.ended (nat_lt 0 (length c.tasks)) none.first in
@@ -272,10 +273,10 @@ sound_after c (statement.Set name items) s spelled e =
     let none = faultless c (statement.Set name items) e in
     let order = either_false c.ended (not (nat_lt 0 (length c.tasks))) none.first in
     let limit = either_false (is_none items) (nat_le 1024 c.calls) none.third in
-    call_after c (set_call (used c name) (used_length c name) (unwrap_or items [])) s order.1 limit.1
+    call_after c (set_call (used_array c name) (used_length c name) (unwrap_or items [])) s order.1 limit.1
     (whole_after c name s none.second, list_fits items (used_length c name) limit.0 none.fourth, list_is items limit.0 spelled)
 sound_after c (statement.Show name) s spelled e =
     let none = faultless c (statement.Show name) e in
     let order = either_false c.ended (not (nat_lt 0 (length c.tasks))) none.first in
-    call_after c (show_call (used c name) (used_length c name)) s order.1 none.third (whole_after c name s none.second)
+    call_after c (show_call (used_array c name) (used_length c name)) s order.1 none.third (whole_after c name s none.second)
 sound_after c statement.End s spelled e = record { sound = s.sound; counted = s.counted }

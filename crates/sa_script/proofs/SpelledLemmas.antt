@@ -96,8 +96,8 @@ item_value (b ∷ bs) i e =
     chosen (eqb b 110) (missing_at bs) (text_at (b ∷ bs) >>= λ t. Some (of_text t.0, t.1)) i (λ (x : Option Value × List ℕ). IfSome x.0 IsTextValue)
     (λ f. missing_value bs i f)
     (λ f.
-        let t = bound (text_at (b ∷ bs)) _ i f in
-        subst (λ (x : Option Value × List ℕ). IfSome x.0 IsTextValue) (same_Some _ i t.then) (of_text_value t.value.0 (text_at_text (b ∷ bs) t.value t.first)))
+    let t = bound (text_at (b ∷ bs)) _ i f in
+    subst (λ (x : Option Value × List ℕ). IfSome x.0 IsTextValue) (same_Some _ i t.then) (of_text_value t.value.0 (text_at_text (b ∷ bs) t.value t.first)))
     e
 
 -- lists
@@ -136,7 +136,7 @@ items_list (suc left) so_far bs r before e =
     chosen (eqb f.value.1 44) (items_at left f.value.0 f.value.2) (cond (eqb f.value.1 41) (Some (f.value.0, f.value.2)) None) r (λ (x : Option (List Value) × List ℕ). IsList x.0)
     (λ more. items_list left f.value.0 f.value.2 r (list_texts f.value.0 is) more)
     (λ last. chosen (eqb f.value.1 41) (Some (f.value.0, f.value.2)) None r (λ (x : Option (List Value) × List ℕ). IsList x.0)
-        (λ end. subst (λ (x : Option (List Value) × List ℕ). IsList x.0) (same_Some _ r end) is) (λ none. cc) last)
+    (λ end. subst (λ (x : Option (List Value) × List ℕ). IsList x.0) (same_Some _ r end) is) (λ none. cc) last)
     f.then
 
 list_spelled : (token : List ℕ) (items : Option (List Value)) → list_of token ≡ Some items → IsList items
@@ -144,11 +144,11 @@ list_spelled [] items e = cc
 list_spelled (b ∷ bs) items e =
     chosen (eqb b 40) (items_at (length bs) (Some []) bs >>= nothing_left) (item_at (b ∷ bs) >>= λ i. nothing_left (one_more (Some []) i.0, i.1)) items IsList
     (λ f.
-        let r = bound (items_at (length bs) (Some []) bs) nothing_left items f in
-        subst IsList (nothing_left_is r.value.0 r.value.1 items r.then) (items_list (length bs) (Some []) bs r.value tt r.first))
+    let r = bound (items_at (length bs) (Some []) bs) nothing_left items f in
+    subst IsList (nothing_left_is r.value.0 r.value.1 items r.then) (items_list (length bs) (Some []) bs r.value tt r.first))
     (λ f.
-        let i = bound (item_at (b ∷ bs)) _ items f in
-        subst IsList (nothing_left_is (one_more (Some []) i.value.0) i.value.1 items i.then) (one_more_list (Some []) i.value.0 tt (item_value (b ∷ bs) i.value i.first)))
+    let i = bound (item_at (b ∷ bs)) _ items f in
+    subst IsList (nothing_left_is (one_more (Some []) i.value.0) i.value.1 items i.then) (one_more_list (Some []) i.value.0 tt (item_value (b ∷ bs) i.value i.first)))
     e
 
 -- rules

@@ -1,15 +1,14 @@
 -- What the lines of a script before one have declared, and what a statement adds.
-use Rattle.std.specs.Prelude.{ℕ, ◌+◌, ℤ, Bool, true, false, ◌||◌, List, [], ◌∷◌, ◌++◌, Option, Some, None, unwrap_or, is_some, position, slice_index_or}
+use Rattle.std.specs.Prelude.{ℕ, ◌+◌, ℤ, Bool, true, false, ◌||◌, List, [], ◌∷◌, ◌++◌, Option, Some, None, unwrap_or, is_some, position}
 use Rattle.std.specs.Str.{bytes_eq}
 use Rattle.sa_descr.specs.declared.descr.NaRule.{NaRule}
 use Rattle.sa_descr.specs.declared.descr.NaRule.TheVariants.{Absent}
-use Rattle.sa_script.specs.declared.decls.ArrayDecl.{ArrayDecl}
 use Rattle.sa_script.specs.declared.decls.Kind.TheVariants as kind
 use Rattle.sa_script.specs.declared.call.Call.{Call}
 use Rattle.sa_script.specs.declared.context.Context.{Context}
 use Rattle.sa_script.specs.declared.statement.Statement.{Statement}
 use Rattle.sa_script.specs.declared.statement.Statement.TheVariants as statement
-use Rattle.sa_script.specs.Decls.{Known}
+use Rattle.sa_script.specs.Decls.{Known, length_at}
 use Rattle.sa_script.specs.Calls.{set_call, show_call, with_call}
 use Rattle.sa_script.specs.Views.{natural}
 
@@ -32,28 +31,21 @@ array_number c name = number_in c.names.arrays name
 abbrev pub home_number : Context → List ℕ → ℕ
 home_number c name = unwrap_or (descr_number c name) 0
 
--- an array by its number, one of length 0 where there is none
-abbrev pub array_at : List ArrayDecl → ℕ → ArrayDecl
-array_at arrays k = slice_index_or arrays k (record { home = 0; kind = kind.Str; len = 0 })
-
-abbrev pub length_at : List ArrayDecl → ℕ → ℕ
-length_at arrays k = (array_at arrays k).len
-
 -- the number of a used array, and the length of it
-abbrev pub used : Context → List ℕ → ℕ
-used c name = unwrap_or (array_number c name) 0
+abbrev pub used_array : Context → List ℕ → ℕ
+used_array c name = unwrap_or (array_number c name) 0
 
 abbrev pub used_length : Context → List ℕ → ℕ
-used_length c name = length_at c.arrays (used c name)
+used_length c name = length_at c.arrays (used_array c name)
 
 -- nothing is declared before the first line
 abbrev pub nothing : Context
 nothing = record { descrs = []; arrays = []; names = record { descrs = []; arrays = [] }; tasks = []; calls = 0; ended = false }
 
 -- a length that a limit allows, 0 in place of each other
-abbrev pub allowed : Option ℤ → ℕ
-allowed None = 0
-allowed (Some n) = natural n
+abbrev pub length_allowed : Option ℤ → ℕ
+length_allowed None = 0
+length_allowed (Some n) = natural n
 
 abbrev pub with_descr : Context → List ℕ → NaRule → Bool → Context
 with_descr c name rule coerce = record c { descrs = c.descrs ++ (record { na = rule; coerce = coerce }) ∷ []; names = record { descrs = c.names.descrs ++ name ∷ []; arrays = c.names.arrays } }
@@ -69,10 +61,10 @@ abbrev pub with_last : Context → Call → Context
 with_last c call = record c { tasks = with_call c.tasks call; calls = c.calls + 1 }
 
 -- what is declared after a statement without a fault
-abbrev pub after : Context → Statement → Context
-after c (statement.Descr name rule coerce) = with_descr c name (unwrap_or rule Absent) coerce
-after c (statement.Array name home len) = with_array c name (home_number c home) (allowed len)
-after c statement.Task = with_task c
-after c (statement.Set name items) = with_last c (set_call (used c name) (used_length c name) (unwrap_or items []))
-after c (statement.Show name) = with_last c (show_call (used c name) (used_length c name))
-after c statement.End = record c { ended = true }
+abbrev pub context_after : Context → Statement → Context
+context_after c (statement.Descr name rule coerce) = with_descr c name (unwrap_or rule Absent) coerce
+context_after c (statement.Array name home len) = with_array c name (home_number c home) (length_allowed len)
+context_after c statement.Task = with_task c
+context_after c (statement.Set name items) = with_last c (set_call (used_array c name) (used_length c name) (unwrap_or items []))
+context_after c (statement.Show name) = with_last c (show_call (used_array c name) (used_length c name))
+context_after c statement.End = record c { ended = true }

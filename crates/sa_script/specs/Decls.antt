@@ -1,14 +1,22 @@
 -- What a script declares: descriptors and arrays, and the names that stand for them.
-use Rattle.std.specs.Prelude.{ℕ, ◌<◌, ◌≤◌, ◌==◌, List, length, sum_by, if◌then◌else◌}
+use Rattle.std.specs.Prelude.{ℕ, ◌<◌, ◌≤◌, ◌==◌, List, length, sum_by, slice_index_or, if◌then◌else◌}
 use Rattle.std.specs.List.{AllByRecursion}
 use Rattle.sa_descr.specs.declared.descr.Descr.{Descr}
 use Rattle.sa_script.specs.declared.decls.ArrayDecl.{ArrayDecl}
+use Rattle.sa_script.specs.declared.decls.Kind.TheVariants as kind
 use Rattle.sa_script.specs.Limits.{most_descrs, most_arrays, most_entries}
 
 -- the descriptors and the arrays, each in order of declaration
 pub record Declared : Type 0 where
   pub descrs : List Descr
   pub arrays : List ArrayDecl
+
+-- an array by its number, one of length 0 where there is none
+abbrev pub array_at : List ArrayDecl → ℕ → ArrayDecl
+array_at arrays k = slice_index_or arrays k (record { home = 0; kind = kind.Str; len = 0 })
+
+abbrev pub length_at : List ArrayDecl → ℕ → ℕ
+length_at arrays k = (array_at arrays k).len
 
 -- the entries of an array, where its home is this descriptor
 abbrev pub entries_at : ℕ → ArrayDecl → ℕ

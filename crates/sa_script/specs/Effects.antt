@@ -18,8 +18,7 @@ use Rattle.sa_script.specs.declared.reply.Refusal.{Refusal}
 use Rattle.sa_script.specs.declared.reply.Refusal.TheVariants as refusal
 use Rattle.sa_script.specs.declared.reply.Reply.TheVariants as reply
 use Rattle.sa_script.specs.declared.reply.Outcome.{Outcome}
-use Rattle.sa_script.specs.Contexts.{array_at}
-use Rattle.sa_script.specs.Decls.{Declared}
+use Rattle.sa_script.specs.Decls.{Declared, array_at}
 use Rattle.sa_script.specs.Limits.{most_weight}
 
 -- the number of a refusal in a report
@@ -109,15 +108,15 @@ refused forbidden weight at [] = None
 refused forbidden weight at (v ∷ vs) = at_place at (refusal_of forbidden weight v) (refused forbidden (weight + value_weight v) (at + 1) vs)
 
 -- results that are not refused: put into the output, or answered where there is none
-abbrev pub given : Option View → List Value → Outcome
-given None values = record { results = None; reply = reply.Shown (Values values) }
-given (Some out) values = record { results = Some (Values values); reply = reply.Done }
+abbrev pub unrefused : Option View → List Value → Outcome
+unrefused None values = record { results = None; reply = reply.Shown (Values values) }
+unrefused (Some out) values = record { results = Some (Values values); reply = reply.Done }
 
 abbrev pub refused_with : Refusal → ℕ → Outcome
 refused_with cause at = record { results = None; reply = reply.Refused (refusal_code cause) at }
 
 abbrev pub outcome_of : Option View → List Value → Option (Refusal × ℕ) → Outcome
-outcome_of out values None = given out values
+outcome_of out values None = unrefused out values
 outcome_of out values (Some r) = refused_with r.0 r.1
 
 -- how many elements a call has: those of its output, or of what it answers

@@ -8,5 +8,6 @@ pub mod Limits
 pub mod Names
 pub mod Scripts
 pub mod Sound
+pub mod SoundContexts
 pub mod Statements
 pub mod Views

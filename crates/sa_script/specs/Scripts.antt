@@ -10,53 +10,53 @@ use Rattle.sa_script.specs.declared.context.Context.{Context}
 use Rattle.sa_script.specs.declared.statement.Statement.{Statement}
 use Rattle.sa_script.specs.declared.fault.ScriptFault.{ScriptFault}
 use Rattle.sa_script.specs.declared.fault.ScriptFault.TheVariants as errors
-use Rattle.sa_script.specs.Contexts.{nothing, after}
+use Rattle.sa_script.specs.Contexts.{nothing, context_after}
 use Rattle.sa_script.specs.Decls.{Declared, Known}
 use Rattle.sa_script.specs.Faults.{fault_of, code_of}
 use Rattle.sa_script.specs.Statements.{statement_of}
 
 -- what is declared after a statement with this fault, if any
-abbrev pub told : Context → Option Cause → Result Context Cause
-told c None = Ok c
-told c (Some fault) = Err fault
+abbrev pub unless_fault : Context → Option Cause → Result Context Cause
+unless_fault c None = Ok c
+unless_fault c (Some fault) = Err fault
 
 -- a line's statement, if its tokens spell one
-abbrev pub said : Context → Option Statement → Result Context Cause
-said c None = Err cause.Syntax
-said c (Some s) = told (after c s) (fault_of c s)
+abbrev pub statement_after : Context → Option Statement → Result Context Cause
+statement_after c None = Err cause.Syntax
+statement_after c (Some s) = unless_fault (context_after c s) (fault_of c s)
 
 -- what is declared after a line, or the line's first fault
 abbrev pub line_after : Context → List ℕ → Result Context Cause
-line_after c bytes = if is_utf8 bytes then (if is_skipped bytes then Ok c else said c (statement_of (tokens_of bytes))) else Err cause.Utf8
+line_after c bytes = if is_utf8 bytes then (if is_skipped bytes then Ok c else statement_after c (statement_of (tokens_of bytes))) else Err cause.Utf8
 
 abbrev pub either : {A B C : Type 0} → Result A B → (A → C) → (B → C) → C
 either (Ok a) f g = f a
 either (Err b) f g = g b
 
 -- what is declared after these lines, or the first faulty one's number and fault; a script without its end is cut at its last line
-abbrev pub judged : Context → ℕ → List (List ℕ) → Result Context (Cause × ℕ)
-judged c number [] = if c.ended then Ok c else Err (cause.Cut, number)
-judged c number (l ∷ ls) = either (line_after c l) (λ d. judged d (number + 1) ls) (λ fault. Err (fault, number + 1))
+abbrev pub lines_after : Context → ℕ → List (List ℕ) → Result Context (Cause × ℕ)
+lines_after c number [] = if c.ended then Ok c else Err (cause.Cut, number)
+lines_after c number (l ∷ ls) = either (line_after c l) (λ d. lines_after d (number + 1) ls) (λ fault. Err (fault, number + 1))
 
 -- what a script is: its declarations, their names, and its tasks' calls
-pub record Plan : Type 0 where
+pub record ScriptValue : Type 0 where
   pub decls : Declared
   pub names : Known
   pub tasks : List (List Call)
 
-abbrev pub plan_of : Context → Plan
-plan_of c = record { decls = record { descrs = c.descrs; arrays = c.arrays }; names = c.names; tasks = c.tasks }
+abbrev pub script_value : Context → ScriptValue
+script_value c = record { decls = record { descrs = c.descrs; arrays = c.arrays }; names = c.names; tasks = c.tasks }
 
 -- the script that the bytes are, or a fault's number and line
-abbrev pub meaning : List ℕ → Result Plan (ℕ × ℕ)
-meaning bytes = either (judged nothing 0 (lines_of bytes)) (λ c. Ok (plan_of c)) (λ fault. Err (code_of fault.0, fault.1))
+abbrev pub meaning : List ℕ → Result ScriptValue (ℕ × ℕ)
+meaning bytes = either (lines_after nothing 0 (lines_of bytes)) (λ c. Ok (script_value c)) (λ fault. Err (code_of fault.0, fault.1))
 
 -- want of memory may come in place of each answer, and a fault is the definition's
-abbrev pub Fails : ScriptFault → Result Plan (ℕ × ℕ) → Type 0
-Fails (errors.Fault code number) defined = defined ≡ Err (code, number)
-Fails errors.Memory defined = Unit {0}
+abbrev pub GivesFault : ScriptFault → Result ScriptValue (ℕ × ℕ) → Type 0
+GivesFault (errors.Fault code number) defined = defined ≡ Err (code, number)
+GivesFault errors.Memory defined = Unit {0}
 
 -- a call gives what the definition says, unless there is no memory for it
-abbrev pub Gives : Result Plan ScriptFault → Result Plan (ℕ × ℕ) → Type 0
-Gives (Ok plan) defined = defined ≡ Ok plan
-Gives (Err error) defined = Fails error defined
+abbrev pub GivesScript : Result ScriptValue ScriptFault → Result ScriptValue (ℕ × ℕ) → Type 0
+GivesScript (Ok script) defined = defined ≡ Ok script
+GivesScript (Err error) defined = GivesFault error defined

@@ -15,10 +15,8 @@ use Rattle.sa_script.specs.declared.call.Op.TheVariants as op
 use Rattle.sa_script.specs.declared.call.Operand.{Operand}
 use Rattle.sa_script.specs.declared.call.Operand.TheVariants as operand
 use Rattle.sa_script.specs.declared.call.Call.{Call}
-use Rattle.sa_script.specs.declared.context.Context.{Context}
 use Rattle.sa_script.specs.Calls.{lengths_fit}
-use Rattle.sa_script.specs.Contexts.{length_at}
-use Rattle.sa_script.specs.Decls.{Declared, IsDeclared, Known}
+use Rattle.sa_script.specs.Decls.{Declared, IsDeclared, Known, length_at}
 use Rattle.sa_script.specs.Limits.{most_tasks, most_calls, most_name_bytes}
 use Rattle.sa_script.specs.Names.{name_of}
 
@@ -79,8 +77,3 @@ pub record IsSound (d : Declared) (known : Known) (tasks : List (List Call)) : T
   pub few_tasks : length tasks ≤ most_tasks
   pub few_calls : sum_by length tasks ≤ most_calls
   pub valid : AreCalls d tasks
-
--- what the lines so far declared and call is sound, and its calls are counted
-pub record IsSoundContext (c : Context) : Type 0 where
-  pub sound : IsSound (record { descrs = c.descrs; arrays = c.arrays }) c.names c.tasks
-  pub counted : sum_by length c.tasks ≡ c.calls

@@ -1,7 +1,7 @@
 ghost use Rattle.std.specs.Prelude.{◌≡◌, ◌+◌, ◌<◌, length, Option, Some, None, option_map, is_none, pos, ◌∷◌, [], ◌||◌, nat_le};
 ghost use Rattle.sa_script.specs.Calls.{lengths_fit};
-ghost use Rattle.sa_script.specs.Contexts.{used, used_length, home_number, array_at, length_at, array_number};
-ghost use Rattle.sa_script.specs.Decls.{entries_of};
+ghost use Rattle.sa_script.specs.Contexts.{used_array, used_length, home_number, array_number};
+ghost use Rattle.sa_script.specs.Decls.{entries_of, array_at, length_at};
 ghost use Rattle.sa_script.specs.Faults.{out_of_order, misnamed, over_limit, bad_lengths, fault_of, has_tasks, is_long, passes_entries, count_in};
 
 use crate::cause::Cause;
@@ -135,7 +135,7 @@ impl Context {
 
     /// The number of a used array, 0 where there is none of this name.
     pub fn number_of(&self, name: &Name<'_>) -> usize
-        ensures { result ≡ used self.now name.now }
+        ensures { result ≡ used_array self.now name.now }
     {
         self.names.array_number(name).unwrap_or(0)
     }

@@ -1,10 +1,10 @@
 ghost use Rattle.std.specs.Prelude.{◌≡◌, ◌<◌, ◌∷◌, [], IfOk, OnOk, Option, Some, None, false, unwrap_or};
 ghost use Rattle.std.specs.Str.{is_utf8};
-ghost use Rattle.sa_script.specs.Contexts.{after, nothing, with_descr, with_array, with_task, with_last, used, used_length, home_number, allowed};
+ghost use Rattle.sa_script.specs.Contexts.{context_after, nothing, with_descr, with_array, with_task, with_last, used_array, used_length, home_number, length_allowed};
 ghost use Rattle.sa_script.specs.Calls.{with_call, set_call, show_call, whole};
 ghost use Rattle.sa_script.specs.Faults.{fault_of, code_of, passes_entries};
-ghost use Rattle.sa_script.specs.Scripts.{Gives, meaning, told, line_after, plan_of};
-ghost use Rattle.sa_script.specs.Sound.{IsSoundContext};
+ghost use Rattle.sa_script.specs.Scripts.{GivesScript, meaning, unless_fault, line_after, script_value};
+ghost use Rattle.sa_script.specs.SoundContexts.{IsSoundContext};
 
 use crate::call::{Call, CallList, Op, Operand, OperandList, TaskList, View};
 use crate::cause::Cause;
@@ -25,7 +25,7 @@ use std::alloc::Global;
 /// The script that the bytes are: its declarations, names and calls. Otherwise the least faulty line,
 /// counted from 1, and the first fault of that line; a script without its end is cut at its last line.
 pub fn parse(alloc: Global, bytes: &[u8]) -> Result<Script, ScriptFault>
-    ensures { Gives result (meaning bytes.now) }
+    ensures { GivesScript result (meaning bytes.now) }
 {
     let mut context = Context::new(alloc);
     let mut scratch = Vec::new(alloc);
@@ -80,7 +80,7 @@ impl Context {
         line: &[u8],
     ) -> Result<Option<Cause>, Memory>
         requires { IsSoundContext self.old }
-        ensures line { IfOk result (λ fault. line_after self.old line.now ≡ told self.new fault) }
+        ensures line { IfOk result (λ fault. line_after self.old line.now ≡ unless_fault self.new fault) }
         ensures sound { IfOk result (λ fault. fault ≡ None → IsSoundContext self.new) }
     {
         if !is_text(line) {
@@ -103,7 +103,7 @@ impl Context {
     fn take(&mut self, alloc: Global, statement: Statement<'_>) -> Result<(), Memory>
         requires sound { IsSoundContext self.old }
         requires faultless { fault_of self.old statement ≡ None }
-        ensures { OnOk result (self.new ≡ after self.old statement.entry) }
+        ensures { OnOk result (self.new ≡ context_after self.old statement.entry) }
     {
         match statement {
             Statement::Descr(name, rule, coerce) => {
@@ -111,7 +111,7 @@ impl Context {
             }
             Statement::Array(name, home, len) => {
                 let home = self.home_of(&home);
-                self.add_array(alloc, &name, home, allowed(len))
+                self.add_array(alloc, &name, home, length_allowed(len))
             }
             Statement::Task => self.add_task(alloc),
             Statement::Set(name, items) => {
@@ -192,7 +192,7 @@ impl Context {
     /// The view of a whole array.
     fn whole(&self, name: &Name<'_>) -> View
         requires { IsSoundContext self.now }
-        ensures { result ≡ whole (used self.now name.now) (used_length self.now name.now) }
+        ensures { result ≡ whole (used_array self.now name.now) (used_length self.now name.now) }
     {
         let array = self.number_of(name);
         View {
@@ -206,7 +206,7 @@ impl Context {
     /// The script, of lines that have ended.
     fn finish(self) -> Script
         requires { IsSoundContext self }
-        ensures { result ≡ plan_of self }
+        ensures { result ≡ script_value self }
     {
         let decls = Decls::new(self.descrs.into_vec(), self.arrays.into_vec());
         Script::new(decls, self.names, self.tasks)
@@ -234,9 +234,9 @@ fn is_text(line: &[u8]) -> bool
 }
 
 /// The length of an array without a fault.
-fn allowed(len: Option<i64>) -> u32
+fn length_allowed(len: Option<i64>) -> u32
     requires { passes_entries 0 len ≡ false }
-    ensures { result ≡ allowed len }
+    ensures { result ≡ length_allowed len }
 {
     match len {
         Some(len) => len as u32,

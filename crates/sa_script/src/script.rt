@@ -16,10 +16,10 @@ pub struct Script {
 }
 
 impl Model for Script {
-    ghost use Rattle.sa_script.specs.Scripts.{Plan};
+    ghost use Rattle.sa_script.specs.Scripts.{ScriptValue};
     ghost use Rattle.sa_script.specs.Sound.{IsSound};
 
-    ghost Value = { Plan };
+    ghost Value = { ScriptValue };
 
     ghost view = { λ s. record { decls = s.decls; names = s.names; tasks = s.tasks } };
 

@@ -14,13 +14,11 @@ use Rattle.sa_script.specs.declared.call.Op.TheVariants as op
 use Rattle.sa_script.specs.declared.call.Operand.{Operand}
 use Rattle.sa_script.specs.declared.call.Operand.TheVariants as operand
 use Rattle.sa_script.specs.declared.call.Call.{Call}
-use Rattle.sa_script.specs.declared.decls.ArrayDecl.{ArrayDecl}
 use Rattle.sa_script.specs.declared.decls.Kind.TheVariants as kind
 use Rattle.sa_script.specs.declared.reply.Outcome.{Outcome}
 use Rattle.sa_script.specs.Calls.{lengths_fit}
-use Rattle.sa_script.specs.Contexts.{length_at, array_at}
-use Rattle.sa_script.specs.Decls.{Declared, IsDeclared, entries_at}
-use Rattle.sa_script.specs.Effects.{stretched, forbids, home_of}
+use Rattle.sa_script.specs.Decls.{Declared, IsDeclared, entries_at, length_at, array_at}
+use Rattle.sa_script.specs.Effects.{stretched, forbids}
 use Rattle.sa_script.specs.Sound.{IsCall, IsOperation, IsWhole}
 use Rattle.strarr.proofs.SlotLemmas.{home_below}
 use Rattle.strarr.specs.Plays.{pairs_from}

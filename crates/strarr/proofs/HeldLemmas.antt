@@ -3,9 +3,8 @@ use Rattle.std.proofs.Common.{◌≡◌, inl, inr, ◌≤◌, ◌<◌, ◌+◌, 
 use Rattle.std.specs.List.{AllByRecursion, IsDistinct, filter, zip}
 use Rattle.std.proofs.lemmas.Bool.{cases_Bool, ne_eqb}
 use Rattle.std.proofs.lemmas.List.{length-map, length-drop, length-take-le, get_or-map, get_or-take, get_or-drop, map-set}
-use Rattle.std.proofs.lemmas.List.Sums.{sum_by-cons, sum_by_more, length-filter, count_by-le-length}
+use Rattle.std.proofs.lemmas.List.Sums.{sum_by-cons, length-filter, count_by-le-length}
 use Rattle.sa_text.specs.declared.value.Value.{Value}
-use Rattle.sa_text.specs.declared.value.Value.TheVariants as value
 use Rattle.sa_alloc.specs.Layouts as layouts
 use Rattle.sa_alloc.specs.Layouts.{Layout, opening_layout, first_entry, value_at, value_in, put_all, stats_of}
 use Rattle.sa_alloc.specs.StoreValues.{StoreValue}
@@ -14,8 +13,7 @@ use Rattle.sa_alloc.specs.Consistency.{IsSmall}
 use Rattle.sa_plain.specs.declared.items.Items.TheVariants.{Values}
 use Rattle.sa_script.specs.declared.call.View.{View}
 use Rattle.sa_script.specs.declared.decls.ArrayDecl.{ArrayDecl}
-use Rattle.sa_script.specs.Contexts.{array_at, length_at}
-use Rattle.sa_script.specs.Decls.{Declared, IsDeclared, entries_of, entries_at}
+use Rattle.sa_script.specs.Decls.{Declared, IsDeclared, entries_of, entries_at, array_at, length_at}
 use Rattle.sa_script.specs.Effects.{home_of}
 use Rattle.sa_script.specs.Sound.{IsWhole}
 use Rattle.strarr.specs.Plays.{stats_in}

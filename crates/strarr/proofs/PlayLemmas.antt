@@ -14,10 +14,9 @@ use Rattle.sa_script.specs.declared.call.Operand.{Operand}
 use Rattle.sa_script.specs.declared.call.Operand.TheVariants as operand
 use Rattle.sa_script.specs.declared.reply.Outcome.{Outcome}
 use Rattle.sa_script.specs.Calls.{lengths_fit}
-use Rattle.sa_script.specs.Contexts.{array_at, length_at}
 use Rattle.sa_script.specs.Effects.{home_of, forbids, stretched}
 use Rattle.sa_script.specs.declared.call.Call.{Call}
-use Rattle.sa_script.specs.Decls.{Declared, IsDeclared, Known}
+use Rattle.sa_script.specs.Decls.{Declared, IsDeclared, Known, array_at, length_at}
 use Rattle.sa_script.specs.Sound.{IsWhole, IsOperation, IsCall, AreCalls}
 use Rattle.sa_report.specs.Histories.{calls_of, unmarked, IsHistory}
 use Rattle.sa_plain.specs.declared.items.Items.{Items}
@@ -288,10 +287,10 @@ shows-items d held array are below =
     }
 
 pub layouts-show : LayoutsShowItems
-layouts-show plan history declared valid array below =
-    let open_is = opening-goes plan.decls declared in
-    let shown = shown-left plan.decls plan.tasks (opening plan.decls) history declared valid (record { held = opening_layouts plan.decls; are = open_is.are; world = open_is.world }) in
-    subst (λ (w : World). ShowsItems plan.decls w array) shown.world (shows-items plan.decls shown.held array shown.are below)
+layouts-show script history declared valid array below =
+    let open_is = opening-goes script.decls declared in
+    let shown = shown-left script.decls script.tasks (opening script.decls) history declared valid (record { held = opening_layouts script.decls; are = open_is.are; world = open_is.world }) in
+    subst (λ (w : World). ShowsItems script.decls w array) shown.world (shows-items script.decls shown.held array shown.are below)
 
 -- what a call leaves alone
 

@@ -5,7 +5,7 @@ use Rattle.sa_script.specs.declared.call.Call.{Call}
 use Rattle.sa_script.specs.declared.reply.Reply.{Reply}
 use Rattle.sa_script.specs.Decls.{Declared}
 use Rattle.sa_plain.specs.declared.items.Items.TheVariants.{Values}
-use Rattle.sa_script.specs.Scripts.{Plan}
+use Rattle.sa_script.specs.Scripts.{ScriptValue}
 use Rattle.strarr.specs.Worlds.{World, opening, world_after, reply_in, values_at, counted_from}
 use Rattle.strarr.specs.Plays.{pairs_from, serial_from, replies_to, play_replies, contents_of, stats_in, call_at}
 use Rattle.sa_alloc.specs.Layouts.{Layout, stats_of}
@@ -75,8 +75,8 @@ length-replies_to : (d : Declared) (w : World) (calls : List Call) → length (r
 length-replies_to d w [] = refl
 length-replies_to d w (c ∷ cs) = ap (λ n. suc n) (length-replies_to d (world_after d w c) cs)
 
-pub length-play_replies : (plan : Plan) (history : List (ℕ × ℕ)) → length (play_replies plan history) ≡ length history
-length-play_replies plan history = length-replies_to plan.decls (opening plan.decls) (map (call_at plan.tasks) history) ∙ length-map history (call_at plan.tasks)
+pub length-play_replies : (script : ScriptValue) (history : List (ℕ × ℕ)) → length (play_replies script history) ≡ length history
+length-play_replies script history = length-replies_to script.decls (opening script.decls) (map (call_at script.tasks) history) ∙ length-map history (call_at script.tasks)
 
 length-counted_from : (k n : ℕ) → length (counted_from k n) ≡ n
 length-counted_from k zero = refl

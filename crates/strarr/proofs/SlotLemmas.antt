@@ -5,8 +5,7 @@ use Rattle.std.proofs.lemmas.Bool.{ltb-true, ltb-false, eq-eqb, ne_eqb}
 use Rattle.std.proofs.lemmas.List.Sums.{sum_by-cons}
 use Rattle.std.proofs.Math.Seq.{take_all}
 use Rattle.sa_script.specs.declared.decls.ArrayDecl.{ArrayDecl}
-use Rattle.sa_script.specs.Contexts.{array_at}
-use Rattle.sa_script.specs.Decls.{Declared}
+use Rattle.sa_script.specs.Decls.{Declared, array_at}
 use Rattle.sa_script.specs.Effects.{home_of}
 use Rattle.strarr.specs.Worlds.{is_at}
 

@@ -17,8 +17,7 @@ use Rattle.sa_alloc.proofs.LayoutLemmas.{put-sound, put-lengths, put-entries, op
 use Rattle.sa_plain.specs.declared.items.Items.TheVariants.{Values}
 use Rattle.sa_script.specs.declared.call.View.{View}
 use Rattle.sa_script.specs.declared.decls.ArrayDecl.{ArrayDecl}
-use Rattle.sa_script.specs.Contexts.{length_at}
-use Rattle.sa_script.specs.Decls.{Declared, IsDeclared}
+use Rattle.sa_script.specs.Decls.{Declared, IsDeclared, length_at}
 use Rattle.sa_script.specs.Effects.{home_of}
 use Rattle.sa_script.specs.Sound.{IsWhole}
 use Rattle.strarr.specs.Worlds.{State, World, is_at, index_at_home, lengths_of, values_at, opening, counted_from, put_results, result_puts, with_results}

@@ -2,10 +2,9 @@
 use Rattle.std.specs.Prelude.{◌≡◌, ◌<◌, ◌+◌, ◌==◌, ℕ, Bool, false, List, length, slice_index_or, Option, Some, None}
 use Rattle.sa_text.specs.declared.value.Value.TheVariants.{Missing}
 use Rattle.sa_alloc.specs.Layouts.{first_entry, value_at}
-use Rattle.sa_script.specs.Contexts.{length_at}
-use Rattle.sa_script.specs.Decls.{Declared, IsDeclared}
+use Rattle.sa_script.specs.Decls.{Declared, IsDeclared, length_at}
 use Rattle.sa_script.specs.Effects.{home_of}
-use Rattle.sa_script.specs.Scripts.{Plan}
+use Rattle.sa_script.specs.Scripts.{ScriptValue}
 use Rattle.sa_script.specs.Sound.{IsCall, AreCalls}
 use Rattle.sa_script.specs.declared.call.Call.{Call}
 use Rattle.sa_script.specs.declared.call.View.{View}
@@ -21,8 +20,8 @@ pub record ShowsItems (decls : Declared) (w : World) (array : ℕ) : Type 0 wher
 
 -- In each world that a play of a script gives, the layouts have the items of the arrays.
 abbrev pub LayoutsShowItems : Type 0
-LayoutsShowItems = (plan : Plan) (history : List (ℕ × ℕ)) → IsDeclared plan.decls → AreCalls plan.decls plan.tasks
-    → (array : ℕ) → array < length plan.decls.arrays → ShowsItems plan.decls (play_world plan history) array
+LayoutsShowItems = (script : ScriptValue) (history : List (ℕ × ℕ)) → IsDeclared script.decls → AreCalls script.decls script.tasks
+    → (array : ℕ) → array < length script.decls.arrays → ShowsItems script.decls (play_world script history) array
 
 -- the output of a call is this array
 abbrev pub is_output : ℕ → Option View → Bool

@@ -21,7 +21,7 @@ most_script_bytes = 4194304
 
 -- for an input that is not too long: the report of the script's serial history, or the fault of what is no script
 abbrev pub answer_of : List ℕ → Status × List ℕ
-answer_of input = either (meaning input) (λ plan. (status.Done, report_of_play plan (serial plan.tasks) [])) (λ fault. (status.Script, fault_line fault.0 fault.1))
+answer_of input = either (meaning input) (λ script. (status.Done, report_of_play script (serial script.tasks) [])) (λ fault. (status.Script, fault_line fault.0 fault.1))
 
 abbrev pub output_for : Option Command → List ℕ → Status × List ℕ
 output_for None input = (status.Words, [])

@@ -8,7 +8,7 @@ use Rattle.sa_script.specs.declared.call.Call.{Call}
 use Rattle.sa_script.specs.declared.call.Op.TheVariants as op
 use Rattle.sa_script.specs.declared.reply.Reply.{Reply}
 use Rattle.sa_script.specs.Decls.{Declared}
-use Rattle.sa_script.specs.Scripts.{Plan}
+use Rattle.sa_script.specs.Scripts.{ScriptValue}
 use Rattle.sa_report.specs.Reports.{report_of}
 use Rattle.strarr.specs.Worlds.{World, opening, reply_in, world_after, values_at, counted_from}
 
@@ -27,11 +27,11 @@ world_left decls w [] = w
 world_left decls w (c ∷ cs) = world_left decls (world_after decls w c) cs
 
 -- the replies and the last world of a script's play of a history, from the opening world
-abbrev pub play_replies : Plan → List (ℕ × ℕ) → List Reply
-play_replies plan history = replies_to plan.decls (opening plan.decls) (map (call_at plan.tasks) history)
+abbrev pub play_replies : ScriptValue → List (ℕ × ℕ) → List Reply
+play_replies script history = replies_to script.decls (opening script.decls) (map (call_at script.tasks) history)
 
-abbrev pub play_world : Plan → List (ℕ × ℕ) → World
-play_world plan history = world_left plan.decls (opening plan.decls) (map (call_at plan.tasks) history)
+abbrev pub play_world : ScriptValue → List (ℕ × ℕ) → World
+play_world script history = world_left script.decls (opening script.decls) (map (call_at script.tasks) history)
 
 -- the calls of a task, this many from a number on
 abbrev pub pairs_from : ℕ → ℕ → ℕ → List (ℕ × ℕ)
@@ -56,5 +56,5 @@ abbrev pub stats_in : Declared → World → List Stats
 stats_in decls w = map (λ d. stats_of (w d).layout) (counted_from 0 (length decls.descrs))
 
 -- the report of a history: its replies, the final contents and the statistics are those of its play
-abbrev pub report_of_play : Plan → List (ℕ × ℕ) → List (ℕ × ℕ) → List ℕ
-report_of_play plan history marks = report_of plan history marks (play_replies plan history) (contents_of plan.decls (play_world plan history)) (stats_in plan.decls (play_world plan history))
+abbrev pub report_of_play : ScriptValue → List (ℕ × ℕ) → List (ℕ × ℕ) → List ℕ
+report_of_play script history marks = report_of script history marks (play_replies script history) (contents_of script.decls (play_world script history)) (stats_in script.decls (play_world script history))

@@ -59,16 +59,16 @@ loop-task-preserved c =
 
 pub returns-clause-replies : goal.returns-clause-replies
 returns-clause-replies c =
-    let plan = c.args.script.now in
+    let script = c.args.script.now in
     let tasks = c.as_slice-tasks.ensures ∙ c.tasks.ensures.tasks in
     ended_replies c.decls-decls.result.now (layouts_of c.loop-task.stores.items) c.as_slice-tasks.result.now c.loop-task.task c.loop-task.replies
     (replies_to c.decls-decls.result.now (world_of (opening_layouts c.decls-decls.result.now)) (all_calls c.as_slice-tasks.result.now)) c.loop-task-test.false c.loop-task.invariant.replies
     ∙ ap₂ (λ (d : Declared) (ts : List (List Call)). replies_to d (world_of (opening_layouts d)) (all_calls ts)) c.decls-decls.ensures tasks
-    ∙ sym (serial_replies plan.decls plan.names plan.tasks c.tasks.ensures.sound.declared)
+    ∙ sym (serial_replies script.decls script.names script.tasks c.tasks.ensures.sound.declared)
 
 pub returns-clause-arrays : goal.returns-clause-arrays
 returns-clause-arrays c =
-    let plan = c.args.script.now in
+    let script = c.args.script.now in
     let d = c.decls-decls.result.now in
     let ts = c.as_slice-tasks.result.now in
     let tasks = c.as_slice-tasks.ensures ∙ c.tasks.ensures.tasks in
@@ -76,11 +76,11 @@ returns-clause-arrays c =
     ∙ ap (λ (stores : List StoreValue). contents_of d (world_of (layouts_of stores))) c.as_slice.ensures.value
     ∙ ap (λ (ls : List Layout). contents_of d (world_of ls)) (ended_layouts d (layouts_of c.loop-task.stores.items) ts c.loop-task.task (layouts_left d (opening_layouts d) (all_calls ts)) c.loop-task-test.false c.loop-task.invariant.layouts)
     ∙ ap₂ (λ (x : Declared) (xs : List (List Call)). contents_of x (world_of (layouts_left x (opening_layouts x) (all_calls xs)))) c.decls-decls.ensures tasks
-    ∙ ap (contents_of plan.decls) (sym (serial_world plan.decls plan.names plan.tasks c.tasks.ensures.sound.declared c.tasks.ensures.sound.valid))
+    ∙ ap (contents_of script.decls) (sym (serial_world script.decls script.names script.tasks c.tasks.ensures.sound.declared c.tasks.ensures.sound.valid))
 
 pub returns-clause-stats : goal.returns-clause-stats
 returns-clause-stats c =
-    let plan = c.args.script.now in
+    let script = c.args.script.now in
     let d = c.decls-decls.result.now in
     let ts = c.as_slice-tasks.result.now in
     let tasks = c.as_slice-tasks.ensures ∙ c.tasks.ensures.tasks in
@@ -88,4 +88,4 @@ returns-clause-stats c =
     ∙ ap (λ (stores : List StoreValue). stats_in d (world_of (layouts_of stores))) c.as_slice-2.ensures.value
     ∙ ap (λ (ls : List Layout). stats_in d (world_of ls)) (ended_layouts d (layouts_of c.loop-task.stores.items) ts c.loop-task.task (layouts_left d (opening_layouts d) (all_calls ts)) c.loop-task-test.false c.loop-task.invariant.layouts)
     ∙ ap₂ (λ (x : Declared) (xs : List (List Call)). stats_in x (world_of (layouts_left x (opening_layouts x) (all_calls xs)))) c.decls-decls.ensures tasks
-    ∙ ap (stats_in plan.decls) (sym (serial_world plan.decls plan.names plan.tasks c.tasks.ensures.sound.declared c.tasks.ensures.sound.valid))
+    ∙ ap (stats_in script.decls) (sym (serial_world script.decls script.names script.tasks c.tasks.ensures.sound.declared c.tasks.ensures.sound.valid))

@@ -1,5 +1,4 @@
 use Rattle.std.proofs.Common.{◌≡◌, ◌≤◌, ◌<◌, [], get_or, sym, ap, ◌∙◌, subst, arith}
-use Rattle.std.proofs.lemmas.List.{drop_all}
 use Rattle.sa_text.specs.Values.{value_weight}
 use Rattle.sa_text.specs.declared.value.Value.TheVariants as value
 use Rattle.strarr.specs.Runs.{strings_in}

@@ -2,7 +2,7 @@ use Rattle.std.proofs.Common.{◌≡◌, sym, ◌∙◌, ap, subst, Ok, Some, No
 use Rattle.sa_lines.specs.Tokens.{tokens_of}
 use Rattle.sa_script.specs.Faults.{fault_of}
 use Rattle.sa_script.specs.Statements.{statement_of}
-use Rattle.sa_script.specs.Sound.{IsSoundContext}
+use Rattle.sa_script.specs.SoundContexts.{IsSoundContext}
 use Rattle.sa_script.proofs.LineLemmas.{line_after_taken}
 use Rattle.sa_script.proofs.SoundLemmas.{sound_after}
 use Rattle.sa_script.proofs.SpelledLemmas.{statement_spelled}
