@@ -1,4 +1,6 @@
 use crate::{Block, SharedBytes};
+use std::alloc::Global;
+use std::process::Abort;
 use std::test::Fail;
 
 /// Takes a value whose type may go to other threads, by value and by reference.
@@ -6,24 +8,31 @@ fn goes_to_threads<T: Send + Sync>(value: &T) -> &T {
     value
 }
 
+/// The first bytes of a slice, and a copy that outlives the original, are those bytes.
+fn try_front(rt: &impl Abort, alloc: Global, all: &[u8], size: usize) -> Result<(), Fail> {
+    assert!(rt; size <= 65_536);
+    assert!(rt; size <= all.len());
+    let wanted = &all[..size];
+    let bytes = SharedBytes::from_slice(alloc, wanted)?;
+    let front = SharedBytes::from_front(alloc, all, size)?;
+    assert_eq!(rt; bytes.len(), size);
+    assert_eq!(rt; bytes.is_empty(), size == 0);
+    assert!(rt; bytes.as_slice() == wanted);
+    assert!(rt; bytes.is_same(&front), "of {size}");
+    let copy = bytes.copy()?;
+    drop(bytes);
+    drop(front);
+    assert_eq!(rt; copy.len(), size);
+    assert!(rt; goes_to_threads(&copy).as_slice() == wanted);
+    Ok(())
+}
+
 #[test]
 fn bytes_are_kept_and_copied(rt: HostRuntime) -> Result<(), Fail> {
     let alloc = rt.alloc();
     let all = vec![in alloc; b'x'; 65_600]?;
     for size in [0, 1, 13, 14, 15, 16, 17, 64, 65_535, 65_536] {
-        assert!(rt; size <= all.len());
-        let bytes = SharedBytes::from_slice(alloc, &all[..size])?;
-        let front = SharedBytes::from_front(alloc, &all, size)?;
-        assert_eq!(rt; bytes.len(), size);
-        assert_eq!(rt; bytes.is_empty(), size == 0);
-        assert!(rt; bytes.as_slice() == &all[..size]);
-        assert!(rt; bytes.is_same(&front), "of {size}");
-        // a copy outlives its original
-        let copy = bytes.copy()?;
-        drop(bytes);
-        drop(front);
-        assert_eq!(rt; copy.len(), size);
-        assert!(rt; goes_to_threads(&copy).as_slice() == &all[..size]);
+        try_front(&rt, alloc, all.as_slice(), size)?;
     }
     Ok(())
 }
