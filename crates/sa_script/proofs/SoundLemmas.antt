@@ -151,6 +151,23 @@ array_after c name home len s named_so new_name untasked few known fits =
       counted = s.counted;
     }
 
+-- other tasks under the same declarations
+with_tasks : (c : Context) (tasks : List (List Call)) (calls : ℕ) → IsSoundContext c → length tasks ≤ 64 → sum_by (λ (t : List Call). length t) tasks ≡ calls → calls ≤ 1024
+    → AreCalls (record { descrs = c.descrs; arrays = c.arrays }) tasks → IsSoundContext (record c { tasks = tasks; calls = calls })
+with_tasks c tasks calls s few counted most valid = record {
+  sound = record {
+    declared = s.sound.declared;
+    descr_names = s.sound.descr_names;
+    array_names = s.sound.array_names;
+    names = s.sound.names;
+    rules = s.sound.rules;
+    few_tasks = few;
+    few_calls = omega arith;
+    valid = valid;
+  };
+  counted = counted;
+}
+
 -- a further task
 task_after : (c : Context) → IsSoundContext c → nat_le 64 (length c.tasks) ≡ false → IsSoundContext (with_task c)
 task_after c s few =
@@ -159,19 +176,7 @@ task_after c s few =
     let whole = sum_by-append (λ (t : List Call). length t) c.tasks ([] ∷ []) in
     let counted : sum_by (λ (t : List Call). length t) c.tasks ≡ c.calls = s.counted in
     let most : sum_by (λ (t : List Call). length t) c.tasks ≤ 1024 = s.sound.few_calls in
-    record {
-      sound = record {
-        declared = s.sound.declared;
-        descr_names = s.sound.descr_names;
-        array_names = s.sound.array_names;
-        names = s.sound.names;
-        rules = s.sound.rules;
-        few_tasks = omega arith;
-        few_calls = omega arith;
-        valid = all_push (AllByRecursion (IsCall (record { descrs = c.descrs; arrays = c.arrays }))) c.tasks [] s.sound.valid tt;
-      };
-      counted = omega arith;
-    }
+    with_tasks c (c.tasks ++ [] ∷ []) c.calls s (omega arith) (omega arith) (omega arith) (all_push (AllByRecursion (IsCall (record { descrs = c.descrs; arrays = c.arrays }))) c.tasks [] s.sound.valid tt)
 
 -- a call more of the last task
 length-with_call : (tasks : List (List Call)) (call : Call) → length (with_call tasks call) ≡ length tasks
@@ -200,19 +205,7 @@ call_after c call s tasked few valid =
     let whole = sum-with_call c.tasks call (not_false (nat_lt 0 (length c.tasks)) tasked) in
     let counted : sum_by (λ (t : List Call). length t) c.tasks ≡ c.calls = s.counted in
     let tasks_before = s.sound.few_tasks in
-    record {
-      sound = record {
-        declared = s.sound.declared;
-        descr_names = s.sound.descr_names;
-        array_names = s.sound.array_names;
-        names = s.sound.names;
-        rules = s.sound.rules;
-        few_tasks = omega arith;
-        few_calls = omega arith;
-        valid = calls-with_call (record { descrs = c.descrs; arrays = c.arrays }) c.tasks call s.sound.valid valid;
-      };
-      counted = omega arith;
-    }
+    with_tasks c (with_call c.tasks call) (c.calls + 1) s (omega arith) (omega arith) (omega arith) (calls-with_call (record { descrs = c.descrs; arrays = c.arrays }) c.tasks call s.sound.valid valid)
 
 -- the view of a whole used array
 whole_after : (c : Context) (name : List ℕ) → IsSoundContext c → is_none (array_number c name) ≡ false → IsWhole (record { descrs = c.descrs; arrays = c.arrays }) (whole (used_array c name) (used_length c name))
