@@ -2,7 +2,7 @@
 use Rattle.std.proofs.Common.{◌≡◌, ℕ, suc, ◌+◌, ◌<◌, ◌≤◌, Bool, true, false, not, ◌||◌, cond, eqb, nat_lt, nat_le, ℤ, pos, negsuc, List, [], ◌∷◌, ◌++◌, length, Option, Some, None, is_none, unwrap_or, refl, ap, subst, arith, length-append, sum_by}
 use Rattle.std.specs.List.{AllByRecursion, IsDistinct}
 use Rattle.std.specs.Option.{IfSome}
-use Rattle.std.proofs.lemmas.Bool.{ltb-false, leb-false, lt-ltb, eqb-true}
+use Rattle.std.proofs.lemmas.Bool.{or_parts, ltb-false, leb-false, lt-ltb, eqb-true}
 use Rattle.std.proofs.lemmas.List.Sums.{sum_by-append}
 use Rattle.std.proofs.lemmas.List.Quantifiers.{position-Some}
 use Rattle.sa_descr.specs.declared.descr.NaRule.{NaRule}
@@ -40,10 +40,6 @@ none_of false true r s a b c d e = cc
 none_of false false true s a b c d e = cc
 none_of false false false true a b c d e = cc
 none_of false false false false a b c d e = record { first = refl; second = refl; third = refl; fourth = refl }
-
-either_false : (p q : Bool) → (p || q) ≡ false → (p ≡ false) × (q ≡ false)
-either_false true q e = cc
-either_false false q e = (refl, e)
 
 not_false : (p : Bool) → not p ≡ false → p ≡ true
 not_false true e = refl
@@ -250,26 +246,26 @@ sound_nothing = record {
 pub sound_after : (c : Context) (s : Statement) → IsSoundContext c → IsSpelled s → fault_of c s ≡ None → IsSoundContext (context_after c s)
 sound_after c (statement.Descr name rule coerce) s spelled e =
     let none = faultless c (statement.Descr name rule coerce) e in
-    let order = either_false c.ended (nat_lt 0 (length c.tasks)) none.first in
-    let limit = either_false (is_long name || is_none rule) (nat_le 8 (length c.descrs)) none.third in
-    let short = either_false (is_long name) (is_none rule) limit.0 in
+    let order = or_parts c.ended (nat_lt 0 (length c.tasks)) none.first in
+    let limit = or_parts (is_long name || is_none rule) (nat_le 8 (length c.descrs)) none.third in
+    let short = or_parts (is_long name) (is_none rule) limit.0 in
     descr_after c name (unwrap_or rule Absent) coerce s (declared_name name spelled.0 short.0) none.second (given_rule rule spelled.1) order.1 limit.1
 sound_after c (statement.Array name home len) s spelled e =
     let none = faultless c (statement.Array name home len) e in
-    let order = either_false c.ended (nat_lt 0 (length c.tasks)) none.first in
-    let names = either_false (is_known c.names name) (is_none (descr_number c home)) none.second in
-    let limit = either_false (is_long name || nat_le 64 (length c.arrays)) (passes_entries (entries_of c.arrays (home_number c home)) len) none.third in
-    let few = either_false (is_long name) (nat_le 64 (length c.arrays)) limit.0 in
+    let order = or_parts c.ended (nat_lt 0 (length c.tasks)) none.first in
+    let names = or_parts (is_known c.names name) (is_none (descr_number c home)) none.second in
+    let limit = or_parts (is_long name || nat_le 64 (length c.arrays)) (passes_entries (entries_of c.arrays (home_number c home)) len) none.third in
+    let few = or_parts (is_long name) (nat_le 64 (length c.arrays)) limit.0 in
     array_after c name home len s (declared_name name spelled few.0) names.0 order.1 few.1 names.1 limit.1
 sound_after c statement.Task s spelled e = let none = faultless c statement.Task e in task_after c s none.third
 sound_after c (statement.Set name items) s spelled e =
     let none = faultless c (statement.Set name items) e in
-    let order = either_false c.ended (not (nat_lt 0 (length c.tasks))) none.first in
-    let limit = either_false (is_none items) (nat_le 1024 c.calls) none.third in
+    let order = or_parts c.ended (not (nat_lt 0 (length c.tasks))) none.first in
+    let limit = or_parts (is_none items) (nat_le 1024 c.calls) none.third in
     call_after c (set_call (used_array c name) (used_length c name) (unwrap_or items [])) s order.1 limit.1
     (whole_after c name s none.second, list_fits items (used_length c name) limit.0 none.fourth, list_is items limit.0 spelled)
 sound_after c (statement.Show name) s spelled e =
     let none = faultless c (statement.Show name) e in
-    let order = either_false c.ended (not (nat_lt 0 (length c.tasks))) none.first in
+    let order = or_parts c.ended (not (nat_lt 0 (length c.tasks))) none.first in
     call_after c (show_call (used_array c name) (used_length c name)) s order.1 none.third (whole_after c name s none.second)
 sound_after c statement.End s spelled e = record { sound = s.sound; counted = s.counted }
