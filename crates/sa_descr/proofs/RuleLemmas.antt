@@ -13,7 +13,7 @@ position_or_len-map : {X Y : Type 0} (p : Y → Bool) (f : X → Y) → (xs : Li
 position_or_len-map p f [] = refl
 position_or_len-map p f (x ∷ xs) = rw (position_or_len-map p f xs) refl
 
-position-map : {X Y : Type 0} (p : Y → Bool) (f : X → Y) → (xs : List X) → position p (map f xs) ≡ position (λ x. p (f x)) xs
+pub position-map : {X Y : Type 0} (p : Y → Bool) (f : X → Y) → (xs : List X) → position p (map f xs) ≡ position (λ x. p (f x)) xs
 position-map p f xs = rw (position_or_len-map p f xs, length-map xs f) refl
 
 -- the rules of the table's descriptors
