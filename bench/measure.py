@@ -1,5 +1,5 @@
 """Runs the program on loads of growing size and prints time, memory, and time per byte of script and
-report together; for the stretched load, per byte of text that the calls write."""
+report together; for the loads that are told in calls, per byte of text that the calls copy or show."""
 import os
 import subprocess
 import sys
@@ -82,6 +82,16 @@ def stretched(calls):
     return head + b"".join(lines) + b"end\n", 8192 * sum(sizes)
 
 
+def viewed(calls):
+    """One array of 2,048 texts of 20 bytes, and calls on strided and overlapping views of it in turn: all
+    moved on by a place, all turned round, every second one put beside itself, and every fourth shown."""
+    head = b'descr d absent\narray a d str 2048\ntask\nset a (' + b",".join(b'"%020d"' % k for k in range(2048)) + b")\n"
+    turn = [(b"copy a[0,2047,1] into a[1,2047,1]\n", 2047), (b"copy a[2047,2048,-1] into a\n", 2048),
+            (b"copy a[0,1024,2] into a[1,1024,2]\n", 1024), (b"show a[3,512,4]\n", 512)]
+    taken = [turn[call % 4] for call in range(calls - 1)]
+    return head + b"".join(line for line, _ in taken) + b"end\n", 20 * (2048 + sum(items for _, items in taken))
+
+
 def peak_memory(program, script):
     """The program's peak memory in KiB, none where /usr/bin/time is absent. A child that Python itself
     starts begins with Python's own memory, so it is measured by a small process between the two."""
@@ -124,11 +134,12 @@ def main():
             wall, peak, status, out = run(program, script)
             each = wall / (len(script) + out) * 1e9
             print(f"{name:<10}{len(script) / MIB:>6.2f}{status:>8}{wall:>9.3f}{each:>11.1f}{shown_memory(peak)}{out / MIB:>12.2f}")
-    print(f"{'stretched':<10}{'calls':>6}{'status':>8}{'wall s':>9}{'ns a byte':>11}{'peak MiB':>10}{'written MiB':>12}")
-    for calls in (256, 512, 1024):
-        script, written = stretched(calls)
-        wall, peak, status, _ = run(program, script)
-        print(f"{'':<10}{calls:>6}{status:>8}{wall:>9.3f}{wall / written * 1e9:>11.1f}{shown_memory(peak)}{written / MIB:>12.2f}")
+    print(f"{'load':<10}{'calls':>6}{'status':>8}{'wall s':>9}{'ns a byte':>11}{'peak MiB':>10}{'moved MiB':>12}")
+    for name, make in (("stretched", stretched), ("viewed", viewed)):
+        for calls in (256, 512, 1024):
+            script, moved = make(calls)
+            wall, peak, status, _ = run(program, script)
+            print(f"{name:<10}{calls:>6}{status:>8}{wall:>9.3f}{wall / moved * 1e9:>11.1f}{shown_memory(peak)}{moved / MIB:>12.2f}")
 
 
 if __name__ == "__main__":

@@ -1,18 +1,15 @@
 -- Copies of values that share a block.
-use Rattle.std.proofs.Common.{◌≡◌, ◌<◌, ◌≤◌, ◌+◌, ℕ, suc, cond, ltb, List, [], ◌∷◌, ◌++◌, length, take, drop, get_or, refl, sym, ap, ◌∙◌, arith, add-one, length-drop, length-append, drop-cons, encode_utf8_all}
+use Rattle.std.proofs.Common.{◌≡◌, ◌<◌, ◌≤◌, ◌+◌, ℕ, cond, ltb, List, [], ◌∷◌, ◌++◌, length, map, take, drop, get_or, sym, ap, ◌∙◌, arith, add-one, length-drop, length-append, drop-cons}
 use Rattle.std.specs.List.{flat_map}
-use Rattle.std.specs.Str.{chars}
 use Rattle.std.proofs.Math.Seq.{take-append_seam, drop-append_seam}
-use Rattle.std.proofs.lemmas.List.{drop-drop, length-take-le, length-map, get_or-take, get_or-drop}
+use Rattle.std.proofs.lemmas.List.{drop-drop, get_or-map, map-append, take_more}
 use Rattle.std.proofs.lemmas.Str.{encodes-chars}
-use Rattle.std.proofs.Math.ListN.{get_or-map}
 use Rattle.sa_text.specs.declared.value.Value.{Value}
 use Rattle.sa_text.specs.declared.value.Value.TheVariants as value
 use Rattle.sa_alloc.specs.declared.seen.Seen.{Seen}
 use Rattle.sa_alloc.specs.declared.seen.Seen.TheVariants as seen
 use Rattle.sa_alloc.specs.Copies.{long_text, value_seen, long_seen, IsSeenText}
-use Rattle.sa_alloc.specs.Layouts.{Layout, value_at, value_in, values_of}
-use Rattle.sa_alloc.specs.Layouts as layouts
+use Rattle.sa_alloc.specs.Layouts.{Layout, value_at}
 use Rattle.sa_alloc.specs.Stores.{Shows}
 
 -- what a load shows of a value
@@ -28,30 +25,22 @@ pub text-shown : (s : Seen) (v : Value) → Shows s v → IsSeenText s
 text-shown seen.Missing v h = tt
 text-shown (seen.Bytes bytes) v h = (h.1, h.2)
 
--- the values of entries from one on, and what is left of a block behind those before
-pub record Left (l : Layout) (block : List ℕ) (first count place start : ℕ) : Type 0 where
-  pub rest : drop start block ≡ flat_map long_text (drop place (take count (drop first (values_of l))))
+-- what is left of a block of values' long texts, behind those of the values before one
+pub record Left (values : List Value) (block : List ℕ) (k start : ℕ) : Type 0 where
+  pub rest : drop start block ≡ flat_map long_text (drop k values)
   pub within : start ≤ length block
 
-pub record Next (l : Layout) (block : List ℕ) (first count place start : ℕ) (s : Seen) : Type 0 where
+pub record Next (values : List Value) (block : List ℕ) (k start : ℕ) (s : Seen) : Type 0 where
   pub within : start + length (long_seen s) ≤ length block
   pub part : take (length (long_seen s)) (drop start block) ≡ long_seen s
-  pub left : Left l block first count (place + 1) (start + length (long_seen s))
+  pub left : Left values block (k + 1) (start + length (long_seen s))
 
-pub next-left : (l : Layout) (block : List ℕ) (first count place start : ℕ) (s : Seen) → place < count → first + count ≤ length l.states → Shows s (value_at l (first + place))
-    → Left l block first count place start → Next l block first count place start s
-next-left l block first count place start s below inside shows left =
-    let all = drop first (values_of l) in
-    let xs = take count all in
-    let v = value_at l (first + place) in
-    let long = length-map l.states (value_in l.extents) in
-    let behind = length-drop first (values_of l) in
-    let many : length xs ≡ count = length-take-le count all (omega arith) in
-    let here : get_or xs place (value.Of []) ≡ v =
-    get_or-take count all place (value.Of []) below ∙ get_or-drop first (values_of l) place (value.Of []) ∙ get_or-map (value_in l.extents) l.states (first + place) layouts.Fresh in
-    let next : drop place xs ≡ v ∷ drop (place + 1) xs = drop-cons xs place (value.Of []) (omega arith) ∙ ap (λ (w : Value). w ∷ drop (suc place) xs) here ∙ ap (λ n. v ∷ drop n xs) (sym (add-one place)) in
+pub next-left : (values : List Value) (block : List ℕ) (k start : ℕ) (s : Seen) → k < length values → Shows s (get_or values k value.Missing) → Left values block k start → Next values block k start s
+next-left values block k start s below shows left =
+    let v = get_or values k value.Missing in
+    let next : drop k values ≡ v ∷ drop (k + 1) values = drop-cons values k value.Missing below ∙ ap (λ n. v ∷ drop n values) (sym (add-one k)) in
     let bytes = long_seen s in
-    let rest = flat_map long_text (drop (place + 1) xs) in
+    let rest = flat_map long_text (drop (k + 1) values) in
     let cut : drop start block ≡ bytes ++ rest = left.rest ∙ ap (flat_map long_text) next ∙ ap (λ (b : List ℕ). b ++ rest) (long-shown s v shows) in
     let size = ap length cut in
     let whole = length-append bytes rest in
@@ -65,3 +54,14 @@ next-left l block first count place start s below inside shows left =
         within = omega arith;
       };
     }
+
+-- the values at places, one more
+abbrev pub values_from : Layout → ℕ → List ℕ → List Value
+values_from l first places = map (λ p. value_at l (first + p)) places
+
+pub values-more : (l : Layout) (first k : ℕ) (places : List ℕ) (d : ℕ) → k < length places → values_from l first (take (k + 1) places) ≡ values_from l first (take k places) ++ value_at l (first + get_or places k d) ∷ []
+values-more l first k places d below =
+    ap (values_from l first) (take_more places k d below) ∙ map-append (λ p. value_at l (first + p)) (take k places) (get_or places k d ∷ [])
+
+pub value-here : (l : Layout) (first k : ℕ) (places : List ℕ) (d : ℕ) → k < length places → get_or (values_from l first places) k value.Missing ≡ value_at l (first + get_or places k d)
+value-here l first k places d below = get_or-map (λ p. value_at l (first + p)) places k d value.Missing below

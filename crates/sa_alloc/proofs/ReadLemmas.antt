@@ -1,15 +1,12 @@
 -- What a store's parts show is what its layout shows.
-use Rattle.std.proofs.Common.{◌≡◌, ◌≤◌, ◌<◌, ◌+◌, ◌-◌, nat_lt, ℕ, Bool, true, false, List, [], ◌∷◌, ◌++◌, length, map, sum, take, drop, count_by, IsUtf8, refl, sym, ap, ◌∙◌, subst, arith, get_or}
+use Rattle.std.proofs.Common.{◌≡◌, ◌≤◌, ◌<◌, ◌+◌, ◌-◌, nat_lt, ℕ, Bool, true, false, List, [], ◌∷◌, length, map, count_by, IsUtf8, refl, sym, ap, ◌∙◌, subst, arith, get_or}
 use Rattle.std.specs.Str.{chars}
-use Rattle.std.specs.List.{sum_by}
-use Rattle.std.proofs.Math.ListN.{get_or-map}
 use Rattle.std.proofs.lemmas.Str.{encodes-chars, chars-nil, IsUtf8-nil}
-use Rattle.std.proofs.lemmas.List.{length-map, take-map, drop-map, take_more, length-drop, get_or-drop}
-use Rattle.std.proofs.lemmas.List.Sums.{sum_by-cons, sum-map}
-use Rattle.std.proofs.lemmas.Simd.{map-map}
+use Rattle.std.proofs.lemmas.List.{length-map}
+use Rattle.std.proofs.lemmas.List.Sums.{sum_by-cons}
 use Rattle.sa_base.specs.declared.stats.Stats.{Stats}
 use Rattle.sa_text.specs.Texts.{text_size, most_bytes}
-use Rattle.sa_text.specs.Values.{value_weight, weight_of}
+use Rattle.sa_text.specs.Values.{value_weight}
 use Rattle.sa_text.specs.declared.value.Value.{Value}
 use Rattle.sa_text.specs.declared.value.Value.TheVariants as value
 use Rattle.sa_entry.specs.Slots.{Slot, Fresh, Inline, InArena, Outside, form_of, is_inside, inside_bytes, slot_size, spelling, IsOuterSize}
@@ -104,7 +101,7 @@ module _ (s : Inside) (now : StoreValue) (e : store_value s ≡ now) (keeps : Ke
   pub weight-read : 16 + slot_size slot ≡ value_weight (value_at now.contents.layout i)
   weight-read = sym (slot-weighs (parts s) slot told keeps.consistent.holds) ∙ ap value_weight (sym value-now)
 
--- statistics, weights, and what every store keeps
+-- statistics, and what every store keeps
 
 outside-out : (t : Storage) (ss : List Slot) → count_by is_out (map (state_of t) ss) ≡ count_by is_outside ss
 outside-out t [] = refl
@@ -128,9 +125,6 @@ stats_at cursor live dead outside = record { cursor = cursor; live = live; dead 
 pub live-le-cursor : (es : List Extent) → live_bytes es ≤ cursor_of es
 live-le-cursor es = let all = cursor-live_and_dead es in omega arith
 
-part-sum : {A : Type 0} (h : A → ℕ) → (n m : ℕ) (xs : List A) → sum_by h (take n (drop m xs)) ≡ sum (take n (drop m (map h xs)))
-part-sum h n m xs = sym (sum-map h (take n (drop m xs))) ∙ ap sum (sym (take-map h n (drop m xs)) ∙ ap (take n) (sym (drop-map h m xs)))
-
 module _ (s : Inside) (now : StoreValue) (e : store_value s ≡ now) (keeps : Keeps s) where
   pub stats-read : (cursor live outside : ℕ) → cursor ≡ cursor_of s.arena.extents → live ≡ live_bytes s.arena.extents → outside ≡ used_count s.outside.texts → stats_at cursor live (cursor - live) outside ≡ stats_of now.contents.layout
   stats-read cursor live outside cursor_is live_is outside_is =
@@ -144,20 +138,6 @@ module _ (s : Inside) (now : StoreValue) (e : store_value s ≡ now) (keeps : Ke
       ∙ ap (λ n. stats_at (cursor_of es) (live_bytes es) n outside) dead_now ∙ ap (stats_at (cursor_of es) (live_bytes es) (dead_bytes es)) outside_now
       ∙ ap (λ (x : StoreValue). stats_of x.contents.layout) e
 
-  pub weights-read : (n m : ℕ) → sum_by (λ x. 16 + slot_size x) (take n (drop m s.entries.items)) ≡ weight_of (take n (drop m (values_of now.contents.layout)))
-  weights-read n m =
-      let ss = s.entries.items in
-      let es = map decoded s.arena.extents in
-      let value : Slot → Value = λ x. value_in es (state_of (parts s) x) in
-      let weighed : map (λ x. value_weight (value x)) ss ≡ map (λ x. 16 + slot_size x) ss =
-      map-same (λ x. 16 + slot_size x) (λ x. value_weight (value x)) ss Fresh (λ j h. slot-weighs (parts s) (slot_at ss j) (keeps.consistent.each j h) keeps.consistent.holds) in
-      let values : map (value_in es) (map (state_of (parts s)) ss) ≡ map value ss = map-map (value_in es) (state_of (parts s)) ss in
-      part-sum (λ x. 16 + slot_size x) n m ss
-      ∙ ap (λ ws. sum (take n (drop m ws))) (sym (map-map value_weight value ss ∙ weighed))
-      ∙ sym (part-sum value_weight n m (map value ss))
-      ∙ ap (λ vs. weight_of (take n (drop m vs))) (sym values)
-      ∙ ap (λ (x : StoreValue). weight_of (take n (drop m (values_of x.contents.layout)))) e
-
   pub store-sound : IsSoundStore now.contents
   store-sound =
       let it : IsSoundStore (contents_from s.lengths.items (parts s) s.entries.items) = record {
@@ -169,11 +149,3 @@ module _ (s : Inside) (now : StoreValue) (e : store_value s ≡ now) (keeps : Ke
         states = map-same (state_of (storage (map decoded s.arena.extents) s.outside.texts)) (state_of (parts s)) s.entries.items Fresh (λ j h. state-decoded (parts s) (slot_at s.entries.items j));
       } in
       subst (λ (x : StoreValue). IsSoundStore x.contents) e it
-
--- values, one more
-pub values-more : (l : Layout) (first k : ℕ) → first + k < length l.states → take (k + 1) (drop first (values_of l)) ≡ take k (drop first (values_of l)) ++ value_at l (first + k) ∷ []
-values-more l first k h =
-    let count = length-map l.states (value_in l.extents) in
-    let left = length-drop first (values_of l) in
-    take_more (drop first (values_of l)) k (value.Of []) (omega arith)
-    ∙ ap (λ v. take k (drop first (values_of l)) ++ v ∷ []) (get_or-drop first (values_of l) k (value.Of []) ∙ get_or-map (value_in l.extents) l.states (first + k) layouts.Fresh)

@@ -1,5 +1,6 @@
 -- The layout of one descriptor: where the text of each entry lies. Source: NEP 55; the table of transitions is this project's own.
 use Rattle.std.specs.Prelude.{◌≡◌, ◌≤◌, ℕ, ◌==◌, nat_lt, nat_le, Bool, true, false, if◌then◌else◌, List, [], ◌∷◌, ◌++◌, length, map, take, sum, count_by, replicate, slice_index_or, slice_set, Some, None, option_map, encode_utf8_all}
+use Rattle.std.specs.List.{range_with_len}
 use Rattle.sa_base.specs.declared.stats.Stats.{Stats}
 use Rattle.sa_text.specs.Texts.{text_size}
 use Rattle.sa_text.specs.declared.value.Value.{Value}
@@ -141,3 +142,7 @@ slot_of extents Missing = slot.Missing
 -- the sixteen bytes of an entry, with zeros in place of a key
 abbrev pub entry_image : Layout → ℕ → List ℕ
 entry_image l entry = spelling (slot_of l.extents (state_at l.states entry))
+
+-- the slots of all entries, array by array
+abbrev pub entry_images : Layout → List (List ℕ)
+entry_images l = map (entry_image l) (range_with_len 0 (length l.states))

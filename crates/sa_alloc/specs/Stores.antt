@@ -1,12 +1,12 @@
 -- What contracts see of a store and of a plan.
-use Rattle.std.specs.Prelude.{◌≡◌, ℕ, ◌+◌, ◌<◌, ◌≤◌, nat_eq, List, map, take, drop, length, slice_index, IsUtf8}
+use Rattle.std.specs.Prelude.{◌≡◌, ℕ, ◌+◌, ◌<◌, ◌≤◌, nat_eq, List, map, length, slice_index, IsUtf8}
 use Rattle.std.specs.List.{AllByRecursion, IsDistinct}
 use Rattle.std.specs.Str.{chars}
 use Rattle.sa_text.specs.Texts.{most_bytes}
 use Rattle.sa_text.specs.declared.value.Value.{Value}
 use Rattle.sa_text.specs.declared.value.Value.TheVariants as value
 use Rattle.sa_arena.specs.Extents.{cursor_of}
-use Rattle.sa_alloc.specs.Layouts.{Layout, first_entry, values_of}
+use Rattle.sa_alloc.specs.Layouts.{first_entry}
 use Rattle.sa_alloc.specs.Needs.{bytes_needed, keys_needed}
 use Rattle.sa_alloc.specs.PlanValues.{PlanValue}
 use Rattle.sa_alloc.specs.StoreValues.{StoreValue}
@@ -38,10 +38,6 @@ pub record IsPlan (lengths : List ℕ) (plan : PlanValue) : Type 0 where
 pub record HasRoom (s : StoreValue) (puts : List (ℕ × Value)) : Type 0 where
   pub bytes : cursor_of s.contents.layout.extents + bytes_needed s.contents.layout puts ≤ s.room.size
   pub keys : keys_needed s.contents.layout puts ≤ s.room.spare
-
--- what the values of an array's entries are
-abbrev pub array_values : Layout → ℕ → List Value
-array_values l array = take (slice_index l.lengths array) (drop (first_entry l.lengths array) (values_of l))
 
 -- what a load answers of a value: a text is lent as its UTF-8
 abbrev pub Shows : Seen → Value → Type 0

@@ -1,14 +1,14 @@
-ghost use Rattle.std.specs.Prelude.{ℕ, ◌≡◌, ◌+◌, ◌≤◌, ◌<◌, ◌^◌, length, slice_index, sum_by, zip, IfOk, replicate};
+ghost use Rattle.std.specs.Prelude.{ℕ, ◌≡◌, ◌+◌, ◌*◌, ◌≤◌, ◌<◌, ◌^◌, length, slice_index, sum_by, zip, IfOk, replicate};
 ghost use Rattle.std.specs.List.{AllByRecursion};
 ghost use Rattle.sa_text.specs.Texts.{most_bytes};
-ghost use Rattle.sa_text.specs.Values.{stretched, value_weight, weight_of};
-ghost use Rattle.sa_entry.specs.Slots.{Fresh, slot_size};
+ghost use Rattle.sa_text.specs.Values.{stretched, value_weight};
+ghost use Rattle.sa_entry.specs.Slots.{Fresh};
 ghost use Rattle.sa_arena.specs.Extents.{cursor_of};
 ghost use Rattle.sa_arena.specs.Images.{grown_size};
-ghost use Rattle.sa_alloc.specs.Layouts.{incoming, state_at, put, put_all, value_at, stats_of, entry_image, arena_image, first_entry};
+ghost use Rattle.sa_alloc.specs.Layouts.{incoming, state_at, put, put_all, value_at, stats_of, entry_image, entry_images, arena_image, first_entry};
 ghost use Rattle.sa_alloc.specs.Needs.{bytes_appended, keys_taken, bytes_needed, bytes_most, keys_most};
 ghost use Rattle.sa_alloc.specs.StoreValues.{IsSoundStore, opening_contents, region_of};
-ghost use Rattle.sa_alloc.specs.Stores.{IsPlace, IsPlan, HasRoom, AreDistinct, Shows, array_values, puts_from, puts_of};
+ghost use Rattle.sa_alloc.specs.Stores.{IsPlace, IsPlan, HasRoom, AreDistinct, Shows, puts_from, puts_of};
 ghost use Rattle.sa_alloc.specs.Consistency.{IsSmall, IsSized, without_key};
 
 use crate::needs::{copies, needs_of};
@@ -142,17 +142,23 @@ impl Store {
         ensures weight { result ≡ value_weight (value_at self.now.contents.layout (first_entry self.now.contents.layout.lengths array + place)) }
         ensures most { result ≤ 16 + most_bytes }
     {
-        VALUE_WEIGHT + self.entries[(self.first(array) + place) as usize].size()
+        self.entry_weight((self.first(array) + place) as usize)
     }
 
-    /// What the values of an array's entries weigh together. Their slots tell it, and no text is read.
-    pub fn weight(&self, array: u32) -> u64
-        requires { array < length self.now.contents.layout.lengths }
-        ensures { result ≡ weight_of (array_values self.now.contents.layout array) }
+    /// What the values at places of an array weigh together. Their slots tell it, and no text is read.
+    pub fn weight(&self, array: u32, places: &[u32]) -> u64
+        requires array { array < length self.now.contents.layout.lengths }
+        requires places { AllByRecursion (λ (p : ℕ). p < slice_index self.now.contents.layout.lengths array) places.now }
+        requires few { length places.now ≤ 8192 }
+        ensures weight { result ≡ sum_by (λ p. value_weight (value_at self.now.contents.layout (first_entry self.now.contents.layout.lengths array + p))) places.now }
+        ensures most { result ≤ 65552 * length places.now }
     {
-        let first = self.first(array) as usize;
-        let count = self.length(array) as usize;
-        entries_weight(&self.entries[first..first + count])
+        let first = self.first(array);
+        let mut weight = 0u64;
+        for place in places {
+            weight += self.entry_weight((first + *place) as usize);
+        }
+        weight
     }
 
     /// The statistics: bytes of extents with their prefixes, and how many texts are outside.
@@ -175,8 +181,29 @@ impl Store {
         requires { IsPlace self.now.contents.layout.lengths array place }
         ensures { result ≡ entry_image self.now.contents.layout (first_entry self.now.contents.layout.lengths array + place) }
     {
-        let entry = &self.entries[(self.first(array) + place) as usize];
-        without_key(entry).bytes()
+        self.image_at((self.first(array) + place) as usize)
+    }
+
+    /// The slots of all entries, array by array, each as `image_entry` gives it. `Memory` where there is
+    /// no memory for them.
+    pub fn image_entries(&self, alloc: Global) -> Result<Vec<[u8; 16]>, Memory>
+        ensures { IfOk result (λ slots. slots.items ≡ entry_images self.now.contents.layout) }
+    {
+        let count = self.count();
+        let mut slots = Vec::with_capacity(alloc, count)?;
+        for entry in 0..count {
+            slots.push(self.image_at(entry))?;
+        }
+        Ok(slots)
+    }
+
+    /// How many entries the arrays have together.
+    pub fn count(&self) -> usize
+        ensures count { result ≡ length self.now.contents.layout.states }
+        ensures slots { result ≡ length self.now.contents.slots }
+        ensures limit { result ≤ 8192 }
+    {
+        self.entries.len()
     }
 
     /// The bytes of the arena, as many as the cursor says, lent from its buffer.
@@ -199,13 +226,14 @@ impl Store {
         self.starts[array as usize]
     }
 
-    /// How many entries an array has.
+    /// What the value of the entry of a number weighs, by its slot.
     #[inline]
-    pub(crate) fn length(&self, array: u32) -> u32
-        requires { array < length self.now.contents.layout.lengths }
-        ensures { result ≡ slice_index self.now.contents.layout.lengths array }
+    fn entry_weight(&self, entry: usize) -> u64
+        requires { entry < length self.now.contents.slots }
+        ensures weight { result ≡ value_weight (value_at self.now.contents.layout entry) }
+        ensures most { result ≤ 16 + most_bytes }
     {
-        self.lengths[array as usize]
+        VALUE_WEIGHT + self.entries[entry].size()
     }
 
     /// The value of the entry of a number, lent.
@@ -248,6 +276,14 @@ impl Store {
         (bytes, keys)
     }
 
+    /// The slot of the entry of a number, with zeros in place of a key.
+    fn image_at(&self, entry: usize) -> [u8; 16]
+        requires { entry < length self.now.contents.slots }
+        ensures { result ≡ entry_image self.now.contents.layout entry }
+    {
+        without_key(&self.entries[entry]).bytes()
+    }
+
     /// Puts a value into the entry of a number.
     #[inline]
     fn put(&mut self, entry: usize, value: Value)
@@ -266,19 +302,6 @@ impl Store {
             value,
         );
     }
-}
-
-/// What the values of these slots weigh together.
-#[inline]
-fn entries_weight(entries: &[Entry]) -> u64
-    requires { length entries.now ≤ 8192 }
-    ensures { result ≡ sum_by (λ s. 16 + slot_size s) entries.now }
-{
-    let mut weight = 0u64;
-    for entry in entries {
-        weight += VALUE_WEIGHT + entry.size();
-    }
-    weight
 }
 
 /// The entry, with 0 in place of a key.

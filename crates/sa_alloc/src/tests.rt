@@ -295,22 +295,24 @@ fn values_and_weights_are_those_of_the_entries(rt: HostRuntime) -> Result<(), Fa
     set(&rt, alloc, &mut store, 1, 0, &[TEXT_20, b"abc", b"x"])?;
     set(&rt, alloc, &mut store, 1, 2, &[TEXT_40])?;
     put(&rt, alloc, &mut store, 1, 3, 1, &[Value::Missing])?;
-    let length = length_of(&rt, &store, 1);
-    let values = store.values(alloc, 1)?;
-    assert_eq!(rt; values.len(), length as usize);
-    for place in 0..length {
-        let value = &values[place as usize];
+    // each place, one of them twice, from the last one down
+    let places = [4, 3, 2, 1, 0, 0];
+    assert!(rt; length_of(&rt, &store, 1) == 5);
+    let values = store.values(alloc, 1, &places)?;
+    assert_eq!(rt; values.len(), places.len());
+    for k in 0..places.len() {
+        let value = &values[k];
         let seen = match value {
             Value::Missing => Seen::Missing,
             Value::Of(text) => Seen::Bytes(text.as_bytes()),
         };
-        assert_eq!(rt; store.load(1, place), seen, "at {place}");
+        assert_eq!(rt; store.load(1, places[k]), seen, "at {k}");
         assert_eq!(rt;
-            store.value_weight(1, place),
+            store.value_weight(1, places[k]),
             value_weight(value),
-            "at {place}"
+            "at {k}"
         );
     }
-    assert_eq!(rt; store.weight(1), 5 * 16 + 20 + 3 + 40);
+    assert_eq!(rt; store.weight(1, &places), 6 * 16 + 2 * 20 + 3 + 40);
     Ok(())
 }

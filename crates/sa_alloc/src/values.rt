@@ -1,8 +1,7 @@
-ghost use Rattle.std.specs.Prelude.{◌≡◌, ◌+◌, ◌*◌, ◌≤◌, ◌<◌, ◌^◌, length, take, drop, IfOk};
-ghost use Rattle.std.specs.List.{flat_map};
+ghost use Rattle.std.specs.Prelude.{◌≡◌, ℕ, ◌+◌, ◌*◌, ◌≤◌, ◌<◌, ◌^◌, length, map, slice_index, take, drop, IfOk};
+ghost use Rattle.std.specs.List.{AllByRecursion, flat_map};
 ghost use Rattle.sa_text.specs.Texts.{most_bytes};
-ghost use Rattle.sa_alloc.specs.Layouts.{value_at, values_of};
-ghost use Rattle.sa_alloc.specs.Stores.{array_values};
+ghost use Rattle.sa_alloc.specs.Layouts.{first_entry, value_at};
 ghost use Rattle.sa_alloc.specs.Copies.{long_text, value_seen, long_seen, IsSeenText};
 
 use crate::seen::Seen;
@@ -16,30 +15,30 @@ use std::alloc::Global;
 const ALONE_MOST: usize = 14;
 
 impl Store {
-    /// The values of an array's entries, in order: each text is copied once, from where it lies. Those
+    /// The values at places of an array, in order: each text is copied once, from where it lies. Those
     /// of more than 14 bytes are parts of one block, so that no allocation is made for each. `Memory`
     /// where one is refused.
-    pub fn values(&self, alloc: Global, array: u32) -> Result<Vec<Value>, Memory>
-        requires { array < length self.now.contents.layout.lengths }
-        ensures { IfOk result (λ v. v.items ≡ array_values self.now.contents.layout array) }
+    pub fn values(&self, alloc: Global, array: u32, places: &[u32]) -> Result<Vec<Value>, Memory>
+        requires array { array < length self.now.contents.layout.lengths }
+        requires places { AllByRecursion (λ (p : ℕ). p < slice_index self.now.contents.layout.lengths array) places.now }
+        requires few { length places.now ≤ 8192 }
+        ensures { IfOk result (λ v. v.items ≡ map (λ p. value_at self.now.contents.layout (first_entry self.now.contents.layout.lengths array + p)) places.now) }
     {
         let first = self.first(array) as usize;
-        let count = self.length(array) as usize;
-        let block = Block::new(alloc, self.long_texts(alloc, first, count)?)?;
-        self.values_over(alloc, &block, first, count)
+        let block = Block::new(alloc, self.long_texts(alloc, first, places)?)?;
+        self.values_over(alloc, &block, first, places)
     }
 
     /// The texts of entries that have more than 14 bytes, one behind another.
-    fn long_texts(&self, alloc: Global, first: usize, count: usize) -> Result<Vec<u8>, Memory>
-        requires within { first + count ≤ length self.now.contents.slots }
-        requires states { length self.now.contents.layout.states ≡ length self.now.contents.slots }
-        requires few { length self.now.contents.slots ≤ 8192 }
-        ensures texts { IfOk result (λ bytes. bytes.items ≡ flat_map long_text (take count (drop first (values_of self.now.contents.layout)))) }
-        ensures few { IfOk result (λ bytes. length bytes.items ≤ most_bytes * count) }
+    fn long_texts(&self, alloc: Global, first: usize, places: &[u32]) -> Result<Vec<u8>, Memory>
+        requires within { AllByRecursion (λ (p : ℕ). first + p < length self.now.contents.slots) places.now }
+        requires limit { length self.now.contents.slots ≤ 8192 }
+        ensures texts { IfOk result (λ bytes. bytes.items ≡ flat_map long_text (map (λ p. value_at self.now.contents.layout (first + p)) places.now)) }
+        ensures few { IfOk result (λ bytes. length bytes.items ≤ most_bytes * length places.now) }
     {
         let mut bytes = Vec::new(alloc);
-        for place in 0..count {
-            bytes.extend_from_slice(self.long_text(first + place))?;
+        for place in places {
+            bytes.extend_from_slice(self.long_text(first + *place as usize))?;
         }
         Ok(bytes)
     }
@@ -60,18 +59,17 @@ impl Store {
         alloc: Global,
         block: &Block,
         first: usize,
-        count: usize,
+        places: &[u32],
     ) -> Result<Vec<Value>, Memory>
-        requires within { first + count ≤ length self.now.contents.slots }
-        requires states { length self.now.contents.layout.states ≡ length self.now.contents.slots }
+        requires within { AllByRecursion (λ (p : ℕ). first + p < length self.now.contents.slots) places.now }
         requires few { (length self.now.contents.slots ≤ 8192) × (length block.now < 2 ^ 32) }
-        requires block { block.now ≡ flat_map long_text (take count (drop first (values_of self.now.contents.layout))) }
-        ensures { IfOk result (λ v. v.items ≡ take count (drop first (values_of self.now.contents.layout))) }
+        requires block { block.now ≡ flat_map long_text (map (λ p. value_at self.now.contents.layout (first + p)) places.now) }
+        ensures { IfOk result (λ v. v.items ≡ map (λ p. value_at self.now.contents.layout (first + p)) places.now) }
     {
-        let mut values = Vec::with_capacity(alloc, count)?;
+        let mut values = Vec::with_capacity(alloc, places.len())?;
         let mut start = 0usize;
-        for place in 0..count {
-            let (value, size) = copied(alloc, block, start, self.seen(first + place))?;
+        for place in places {
+            let (value, size) = copied(alloc, block, start, self.seen(first + *place as usize))?;
             values.push(value)?;
             start += size;
         }

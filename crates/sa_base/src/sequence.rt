@@ -1,4 +1,4 @@
-ghost use Rattle.std.specs.Prelude.{◌≡◌, ◌++◌, ◌∷◌, ◌==◌, [], length, slice_get, IfErr, OnOk, OnErr, MatchOption};
+ghost use Rattle.std.specs.Prelude.{◌≡◌, ◌++◌, ◌∷◌, ◌==◌, [], length, slice_get, IfOk, IfErr, OnOk, OnErr, MatchOption};
 ghost use Rattle.std.specs.Option.{option_copied};
 
 use crate::memory::Memory;
@@ -6,7 +6,7 @@ use std::alloc::Global;
 use std::marker::Model;
 
 /// A list inside a public value: contracts see its items alone, in order.
-#[derive(Drop)]
+#[derive(Debug, Drop)]
 pub struct Sequence<T> {
     items: Vec<T>,
 }
@@ -79,6 +79,17 @@ impl<T> Sequence<T> {
         ensures { result ≡ items.items }
     {
         Sequence { items }
+    }
+
+    /// Copies of these items, in order.
+    pub fn from_slice(alloc: Global, items: &[T]) -> Result<Self, Memory>
+    where
+        T: Copy,
+        ensures { IfOk result (λ s. s ≡ items.now) }
+    {
+        Ok(Sequence {
+            items: Vec::from_slice(alloc, items)?,
+        })
     }
 
     /// The items, in order, as a vector. It takes no memory.

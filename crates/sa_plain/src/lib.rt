@@ -4,7 +4,8 @@
 mod items;
 mod written;
 
-pub use items::{Items, ItemsList, ValueList};
+pub use items::{ByteList, Items, ItemsList};
+pub use sa_text::ValueList;
 pub use written::push_items;
 
 #[cfg(test)]

@@ -1,11 +1,11 @@
-ghost use Rattle.std.specs.Prelude.{◌≡◌, ◌++◌, ◌∷◌, [], OnOk};
+ghost use Rattle.std.specs.Prelude.{◌≡◌, ◌++◌, ◌∷◌, [], replicate, OnOk};
 ghost use Rattle.std.specs.List.{flat_map, join_by};
 ghost use Rattle.sa_plain.specs.Written.{value_bytes, list_bytes};
 
 use crate::items::Items;
 use sa_base::Memory;
 use sa_lines::push_quoted;
-use sa_text::Value;
+use sa_text::{Value, ValueList};
 
 /// Writes one value of a list.
 fn push_value(out: &mut Vec<u8>, value: &Value) -> Result<(), Memory>
@@ -41,13 +41,46 @@ fn push_values(out: &mut Vec<u8>, values: &[Value]) -> Result<(), Memory>
     }
 }
 
+/// Writes one value this often, with a comma in front of each.
+fn push_further_times(out: &mut Vec<u8>, value: &Value, count: usize) -> Result<(), Memory>
+    ensures { OnOk result (out.new.items ≡ out.old.items ++ flat_map (λ v. 44 ∷ value_bytes v) (replicate count value.now)) }
+{
+    for _k in 0..count {
+        out.push(b',')?;
+        push_value(out, value)?;
+    }
+    Ok(())
+}
+
+/// Writes one value this often, with a comma between two of them.
+fn push_times(out: &mut Vec<u8>, value: &Value, count: usize) -> Result<(), Memory>
+    ensures { OnOk result (out.new.items ≡ out.old.items ++ join_by value_bytes (44 ∷ []) (replicate count value.now)) }
+{
+    let Some(others) = count.checked_sub(1) else {
+        return Ok(());
+    };
+    push_value(out, value)?;
+    push_further_times(out, value, others)
+}
+
+/// Writes a list with a comma between two values. One value that stands for many is not looked up anew
+/// for each.
+fn push_list(out: &mut Vec<u8>, list: &ValueList) -> Result<(), Memory>
+    ensures { OnOk result (out.new.items ≡ out.old.items ++ join_by value_bytes (44 ∷ []) list.now) }
+{
+    match list.as_slice() {
+        [only] => push_times(out, only, list.len()),
+        values => push_values(out, values),
+    }
+}
+
 /// Writes items as a list in brackets at the end.
 pub fn push_items(out: &mut Vec<u8>, items: &Items) -> Result<(), Memory>
     ensures { OnOk result (out.new.items ≡ out.old.items ++ list_bytes items.now) }
 {
     let Items::Values(values) = items;
     out.push(b'(')?;
-    push_values(out, values.as_slice())?;
+    push_list(out, values)?;
     out.push(b')')?;
     Ok(())
 }

@@ -1,2 +1,5 @@
+pub mod ContentLemmas
 pub mod NamingLemmas
 pub mod ReportLemmas
+pub mod StepLemmas
+pub mod WholeLemmas

@@ -10,7 +10,7 @@ use Rattle.sa_lines.specs.Lines.{lines_of, line}
 use Rattle.sa_lines.specs.Numbers.{strict_number_of, strict_number_at}
 use Rattle.sa_lines.specs.Tokens.{Inside, joined, leads}
 use Rattle.sa_report.specs.Naming.{pair_of, pairs_of, IsShort, NamesItsHistory}
-use Rattle.sa_report.specs.Reports.{pair, spaced_pair, report_rest}
+use Rattle.sa_report.specs.Reports.{pair, spaced_pair, report_rest, marks_in}
 
 -- a byte that stands in a word
 abbrev IsWordByte : ℕ → Type 0
@@ -93,8 +93,8 @@ lines_of-three a b c rest lines_again h k l =
 pub names_again : LinesAgain → TokensAgain → StrictIsDecimal → DecimalInFront → NamesItsHistory
 names_again lines_again tokens_again strict in_front script history marks replies contents stats h k =
     let first : List ℕ = codes "history" ++ flat_map spaced_pair history in
-    let second : List ℕ = codes "marked" ++ flat_map spaced_pair marks in
-    let lines = lines_of-three (codes "report 1") first second (report_rest script history marks replies contents stats) lines_again refl (no_controls-pairs history h) (no_controls-pairs marks k) in (
+    let second : List ℕ = codes "marked" ++ flat_map spaced_pair (marks_in script marks) in
+    let lines = lines_of-three (codes "report 1") first second (report_rest script history marks replies contents stats) lines_again refl (no_controls-pairs history h) (no_controls-pairs (marks_in script marks) k) in (
       ap (λ ls. pairs_of (slice_index_or ls 1 [])) lines ∙ pairs_of-line (codes "history") history tokens_again strict in_front refl h,
-      ap (λ ls. pairs_of (slice_index_or ls 2 [])) lines ∙ pairs_of-line (codes "marked") marks tokens_again strict in_front refl k,
+      ap (λ ls. pairs_of (slice_index_or ls 2 [])) lines ∙ pairs_of-line (codes "marked") (marks_in script marks) tokens_again strict in_front refl k,
     )

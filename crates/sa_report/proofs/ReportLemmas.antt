@@ -1,79 +1,81 @@
 -- The parts of a report, one step at a time.
-use Rattle.std.proofs.Common.{◌≡◌, ◌≢◌, ℕ, zero, suc, ◌+◌, ◌<◌, Bool, true, false, eqb, List, [], ◌∷◌, ◌++◌, length, map, get_or, drop, refl, sym, ap, ◌∙◌, arith, eq-eqb, add-one, drop-cons, append_assoc}
+use Rattle.std.proofs.Common.{◌≡◌, ◌≢◌, ℕ, zero, suc, ◌+◌, ◌-◌, ◌<◌, Bool, true, false, List, [], ◌∷◌, ◌++◌, map, drop, Some, Bor, refl, ap, ◌∙◌, arith, eq-eqb}
+use Rattle.std.specs.List.{flat_map, slice_get}
 use Rattle.std.proofs.lemmas.Bool.{ne_eqb}
+use Rattle.std.proofs.lemmas.Grind.{flat_map-append}
+use Rattle.std.proofs.lemmas.List.{map-append}
 use Rattle.sa_base.specs.declared.stats.Stats.{Stats}
 use Rattle.sa_plain.specs.declared.items.Items.{Items}
-use Rattle.sa_script.specs.declared.call.Call.{Call}
-use Rattle.sa_script.specs.declared.reply.Reply.{Reply}
-use Rattle.sa_report.specs.Histories.{IsHistory, calls_of, unmarked, is_among}
-use Rattle.sa_report.specs.Reports.{replies_of, numbered, call_lines, call_line, task_line, task_block, task_lines, array_line, array_lines, stats_line, stats_lines}
+use Rattle.sa_call.specs.declared.call.Call.{Call}
+use Rattle.sa_call.specs.declared.reply.Reply.{Reply}
+use Rattle.sa_loop.specs.Histories.{marked_calls, marked_from}
+use Rattle.sa_report.specs.Reports.{spaced_pair, replies_of, call_lines, call_line, memory_line, task_block, task_lines, array_line, array_lines, stats_line, stats_lines}
+use Rattle.sa_report.proofs.StepLemmas.{drop-at}
 
--- without marks the calls of a task are numbered from 0
-pub call_lines_numbered : (task k n : ℕ) (replies : List Reply) → length replies ≡ n → call_lines (is_among [] task) k n replies ≡ numbered k replies
-call_lines_numbered task k zero [] e = refl
-call_lines_numbered task k zero (r ∷ rs) e = absurd (omega arith)
-call_lines_numbered task k (suc n) [] e = absurd (omega arith)
-call_lines_numbered task k (suc n) (r ∷ rs) e = ap (λ bytes. call_line k r ++ bytes) (call_lines_numbered task (k + 1) n rs (omega arith))
+-- one more pair of a history
+pub pairs-drop : (pairs : List (ℕ × ℕ)) (k : ℕ) (p : ℕ × ℕ) → slice_get pairs k ≡ Some p → flat_map spaced_pair (drop k pairs) ≡ spaced_pair p ++ flat_map spaced_pair (drop (k + 1) pairs)
+pairs-drop pairs k p got = ap (flat_map spaced_pair) (drop-at pairs k p got)
 
--- as many replies as calls
-length-replies_of : (task : ℕ) (history : List (ℕ × ℕ)) (replies : List Reply) → length replies ≡ length history → length (replies_of task history replies) ≡ length (calls_of task history)
-length-replies_of task [] replies e = refl
-length-replies_of task (p ∷ ps) [] e = absurd (omega arith)
-length-replies_of task (p ∷ ps) (r ∷ rs) e = go (eqb p.0 task) refl (length-replies_of task ps rs (omega arith))
-  where
-    go : (b : Bool) → eqb p.0 task ≡ b → length (replies_of task ps rs) ≡ length (calls_of task ps) → length (replies_of task (p ∷ ps) (r ∷ rs)) ≡ length (calls_of task (p ∷ ps))
-    go true f ih = rw f (ap (λ n. suc n) ih)
-    go false f ih = rw f ih
+-- of a task's calls one that is marked, and one that is not
+left-more : (k n : ℕ) → k < n → n - k ≡ suc (n - (k + 1))
+left-more k n below = omega arith
 
-length-unmarked : (task k n : ℕ) → length (unmarked (is_among [] task) k n) ≡ n
-length-unmarked task k zero = refl
-length-unmarked task k (suc n) = ap (λ m. suc m) (length-unmarked task (k + 1) n)
+pub marks-taken : (marked : ℕ → Bool) (task k n : ℕ) → k < n → marked k ≡ true → flat_map spaced_pair (marked_calls marked task k (n - k)) ≡ spaced_pair (task, k) ++ flat_map spaced_pair (marked_calls marked task (k + 1) (n - (k + 1)))
+marks-taken marked task k n below is = let more = left-more k n below in rw (more, is) refl
 
-get_or-lengths : (tasks : List (List Call)) (k : ℕ) (d : List Call) → k < length tasks → get_or (map length tasks) k 0 ≡ length (get_or tasks k d)
-get_or-lengths [] k d below = absurd (omega arith)
-get_or-lengths (t ∷ ts) zero d below = refl
-get_or-lengths (t ∷ ts) (suc k) d below = get_or-lengths ts k d (omega arith)
+pub marks-passed : (marked : ℕ → Bool) (task k n : ℕ) → k < n → marked k ≡ false → marked_calls marked task k (n - k) ≡ marked_calls marked task (k + 1) (n - (k + 1))
+marks-passed marked task k n below is = let more = left-more k n below in rw (more, is) refl
 
--- each call of a task has a reply
-pub answered : (tasks : List (List Call)) (history : List (ℕ × ℕ)) (replies : List Reply) (task : ℕ) (d : List Call) → IsHistory (map length tasks) history [] → length replies ≡ length history → task < length tasks
-    → length (replies_of task history replies) ≡ length (get_or tasks task d)
-answered tasks history replies task d h e below =
-    length-replies_of task history replies e ∙ ap (λ (ns : List ℕ). length ns) (h.calls task) ∙ length-unmarked task 0 (get_or (map length tasks) task 0) ∙ get_or-lengths tasks task d below
-
--- one more task
-pub task_lines-drop : (history : List (ℕ × ℕ)) (replies : List Reply) (tasks : List (List Call)) (k : ℕ) (d : List Call) → k < length tasks
-    → task_lines history [] replies k (drop k tasks) ≡ task_block history [] replies k (get_or tasks k d) ++ task_lines history [] replies (k + 1) (drop (k + 1) tasks)
-task_lines-drop history replies tasks k d below = rw (drop-cons tasks k d, add-one) refl
-
--- one more array
-pub array_lines-drop : (names : List (List ℕ)) (contents : List Items) (k : ℕ) (d : List ℕ) (e : Items) → k < length names → k < length contents
-    → array_lines (drop k names) (drop k contents) ≡ array_line (get_or names k d) (get_or contents k e) ++ array_lines (drop (k + 1) names) (drop (k + 1) contents)
-array_lines-drop names contents k d e below within = rw (drop-cons names k d, drop-cons contents k e, add-one) refl
-
--- one more descriptor
-pub stats_lines-drop : (names : List (List ℕ)) (stats : List Stats) (k : ℕ) (d : List ℕ) (e : Stats) → k < length names → k < length stats
-    → stats_lines (drop k names) (drop k stats) ≡ stats_line (get_or names k d) (get_or stats k e) ++ stats_lines (drop (k + 1) names) (drop (k + 1) stats)
-stats_lines-drop names stats k d e below within = rw (drop-cons names k d, drop-cons stats k e, add-one) refl
+-- the marked calls of one more task
+pub marks-drop : (marks : ℕ → ℕ → Bool) (counts : List ℕ) (k n : ℕ) → slice_get counts k ≡ Some n
+    → flat_map spaced_pair (marked_from marks k (drop k counts)) ≡ flat_map spaced_pair (marked_calls (marks k) k 0 n) ++ flat_map spaced_pair (marked_from marks (k + 1) (drop (k + 1) counts))
+marks-drop marks counts k n got = ap (λ ns. flat_map spaced_pair (marked_from marks k ns)) (drop-at counts k n got) ∙ flat_map-append spaced_pair (marked_calls (marks k) k 0 n) (marked_from marks (k + 1) (drop (k + 1) counts))
 
 -- a call of the task, and one of another
-pub replies_of-taken : (task : ℕ) (history : List (ℕ × ℕ)) (replies : List Reply) (k : ℕ) (d : ℕ × ℕ) (e : Reply) → k < length history → k < length replies → (get_or history k d).0 ≡ task
-    → replies_of task (drop k history) (drop k replies) ≡ get_or replies k e ∷ replies_of task (drop (k + 1) history) (drop (k + 1) replies)
-replies_of-taken task history replies k d e below within same = let f = eq-eqb (get_or history k d).0 task same in rw (drop-cons history k d, drop-cons replies k e, add-one, f) refl
+pub replies_of-taken : (task : ℕ) (pairs : List (ℕ × ℕ)) (replies : List Reply) (k : ℕ) (p : ℕ × ℕ) (r : Reply) → slice_get pairs k ≡ Some p → slice_get replies k ≡ Some r → p.0 ≡ task
+    → replies_of task (drop k pairs) (drop k replies) ≡ r ∷ replies_of task (drop (k + 1) pairs) (drop (k + 1) replies)
+replies_of-taken task pairs replies k p r got reply same =
+    let f = eq-eqb p.0 task same in let a = drop-at pairs k p got in let b = drop-at replies k r reply in rw (a, b, f) refl
 
-pub replies_of-passed : (task : ℕ) (history : List (ℕ × ℕ)) (replies : List Reply) (k : ℕ) (d : ℕ × ℕ) (e : Reply) → k < length history → k < length replies → (get_or history k d).0 ≢ task
-    → replies_of task (drop k history) (drop k replies) ≡ replies_of task (drop (k + 1) history) (drop (k + 1) replies)
-replies_of-passed task history replies k d e below within other = let f = ne_eqb (get_or history k d).0 task other in rw (drop-cons history k d, drop-cons replies k e, add-one, f) refl
+pub replies_of-passed : (task : ℕ) (pairs : List (ℕ × ℕ)) (replies : List Reply) (k : ℕ) (p : ℕ × ℕ) (r : Reply) → slice_get pairs k ≡ Some p → slice_get replies k ≡ Some r → p.0 ≢ task
+    → replies_of task (drop k pairs) (drop k replies) ≡ replies_of task (drop (k + 1) pairs) (drop (k + 1) replies)
+replies_of-passed task pairs replies k p r got reply other =
+    let f = ne_eqb p.0 task other in let a = drop-at pairs k p got in let b = drop-at replies k r reply in rw (a, b, f) refl
 
--- what is written, and what is left to write, after one more part
-pub onward : (new old part rest left total : List ℕ) → new ≡ old ++ part → left ≡ part ++ rest → old ++ left ≡ total → new ++ rest ≡ total
-onward new old part rest left total written split before =
-    ap (λ bytes. bytes ++ rest) written ∙ append_assoc old part rest ∙ ap (λ bytes. old ++ bytes) (sym split) ∙ before
+-- one more reply is gathered
+pub reply-pushed : (old new : List (Bor Reply)) (x : Bor Reply) (r : Reply) → new ≡ old ++ x ∷ [] → x.now ≡ r → map (λ (b : Bor Reply). b.now) new ≡ map (λ (b : Bor Reply). b.now) old ++ r ∷ []
+reply-pushed old new x r pushed is = ap (map (λ (b : Bor Reply). b.now)) pushed ∙ (map-append (λ (b : Bor Reply). b.now) old (x ∷ []) ∙ ap (λ (y : Reply). map (λ (b : Bor Reply). b.now) old ++ y ∷ []) is)
 
--- a task's line and those of its calls
-pub task_written : (new middle old : List ℕ) (history : List (ℕ × ℕ)) (replies : List Reply) (task : ℕ) (calls : List Call) → length (replies_of task history replies) ≡ length calls
-    → middle ≡ old ++ task_line task → new ≡ middle ++ numbered 0 (replies_of task history replies) → new ≡ old ++ task_block history [] replies task calls
-task_written new middle old history replies task calls counted begun written =
-    written
-    ∙ ap (λ bytes. bytes ++ numbered 0 (replies_of task history replies)) begun
-    ∙ append_assoc old (task_line task) (numbered 0 (replies_of task history replies))
-    ∙ ap (λ bytes. old ++ (task_line task ++ bytes)) (sym (call_lines_numbered task 0 (length calls) (replies_of task history replies) counted))
+-- the line of a marked call, the line of one with the next reply, and no line where no reply is left
+call_lines-memory : (marked : ℕ → Bool) (k n : ℕ) (replies : List Reply) → marked k ≡ true → call_lines marked k (suc n) replies ≡ memory_line k ++ call_lines marked (k + 1) n replies
+call_lines-memory marked k n [] is = rw is refl
+call_lines-memory marked k n (r ∷ rs) is = rw is refl
+
+pub call_lines-marked : (marked : ℕ → Bool) (k n : ℕ) (replies : List Reply) → k < n → marked k ≡ true → call_lines marked k (n - k) replies ≡ memory_line k ++ call_lines marked (k + 1) (n - (k + 1)) replies
+call_lines-marked marked k n replies below is = ap (λ m. call_lines marked k m replies) (left-more k n below) ∙ call_lines-memory marked k (n - (k + 1)) replies is
+
+pub call_lines-next : (marked : ℕ → Bool) (k n next : ℕ) (replies : List Reply) (r : Reply) → k < n → marked k ≡ false → slice_get replies next ≡ Some r
+    → call_lines marked k (n - k) (drop next replies) ≡ call_line k r ++ call_lines marked (k + 1) (n - (k + 1)) (drop (next + 1) replies)
+call_lines-next marked k n next replies r below is got = let more = left-more k n below in let a = drop-at replies next r got in rw (more, a, is) refl
+
+call_lines-end : (marked : ℕ → Bool) (k n : ℕ) → marked k ≡ false → call_lines marked k n [] ≡ []
+call_lines-end marked k zero is = refl
+call_lines-end marked k (suc n) is = rw is refl
+
+pub call_lines-none : (marked : ℕ → Bool) (k n : ℕ) (replies : List Reply) → marked k ≡ false → replies ≡ [] → call_lines marked k n replies ≡ []
+call_lines-none marked k n replies is none = ap (call_lines marked k n) none ∙ call_lines-end marked k n is
+
+-- one more task
+pub task_lines-drop : (pairs : List (ℕ × ℕ)) (marks : ℕ → ℕ → Bool) (replies : List Reply) (tasks : List (List Call)) (k : ℕ) (calls : List Call) → slice_get tasks k ≡ Some calls
+    → task_lines pairs marks replies k (drop k tasks) ≡ task_block pairs marks replies k calls ++ task_lines pairs marks replies (k + 1) (drop (k + 1) tasks)
+task_lines-drop pairs marks replies tasks k calls got = ap (task_lines pairs marks replies k) (drop-at tasks k calls got)
+
+-- one more array
+pub array_lines-drop : (names : List (List ℕ)) (contents : List Items) (k : ℕ) (name : List ℕ) (items : Items) → slice_get names k ≡ Some name → slice_get contents k ≡ Some items
+    → array_lines (drop k names) (drop k contents) ≡ array_line name items ++ array_lines (drop (k + 1) names) (drop (k + 1) contents)
+array_lines-drop names contents k name items named got = let a = drop-at names k name named in let b = drop-at contents k items got in rw (a, b) refl
+
+-- one more descriptor
+pub stats_lines-drop : (names : List (List ℕ)) (stats : List Stats) (k : ℕ) (name : List ℕ) (s : Stats) → slice_get names k ≡ Some name → slice_get stats k ≡ Some s
+    → stats_lines (drop k names) (drop k stats) ≡ stats_line name s ++ stats_lines (drop (k + 1) names) (drop (k + 1) stats)
+stats_lines-drop names stats k name s named got = let a = drop-at names k name named in let b = drop-at stats k s got in rw (a, b) refl

@@ -1,3 +1,4 @@
-pub mod Histories
+pub use Rattle.sa_loop.specs.Histories
 pub mod Naming
+pub mod Plays
 pub mod Reports

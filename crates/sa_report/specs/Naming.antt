@@ -1,5 +1,5 @@
 -- The history and the marks that a report's bytes name, read back from them.
-use Rattle.std.specs.Prelude.{◌≡◌, ℕ, ◌^◌, ◌<◌, ◌==◌, List, [], ◌∷◌, map, drop, slice_index_or, Option, Some, None, if◌then◌else◌}
+use Rattle.std.specs.Prelude.{◌≡◌, ℕ, ◌^◌, ◌<◌, ◌==◌, Bool, List, [], ◌∷◌, map, drop, slice_index_or, Option, Some, None, if◌then◌else◌}
 use Rattle.std.specs.List.{AllByRecursion}
 use Rattle.sa_base.specs.declared.stats.Stats.{Stats}
 use Rattle.sa_lines.specs.Lines.{lines_of}
@@ -7,9 +7,9 @@ use Rattle.sa_lines.specs.Numbers.{strict_number_of, strict_number_at}
 use Rattle.sa_lines.specs.Options.{◌>>=◌}
 use Rattle.sa_lines.specs.Tokens.{tokens_of}
 use Rattle.sa_plain.specs.declared.items.Items.{Items}
-use Rattle.sa_script.specs.declared.reply.Reply.{Reply}
+use Rattle.sa_call.specs.declared.reply.Reply.{Reply}
 use Rattle.sa_script.specs.Scripts.{ScriptValue}
-use Rattle.sa_report.specs.Reports.{report_of}
+use Rattle.sa_report.specs.Reports.{report_of, marks_in}
 
 -- what follows a colon at the front
 abbrev pub behind_colon : List ℕ → Option (List ℕ)
@@ -37,6 +37,6 @@ IsShort p = (p.0 < 2 ^ 64) × (p.1 < 2 ^ 64)
 
 -- a report names its history and its marks
 abbrev pub NamesItsHistory : Type 0
-NamesItsHistory = (script : ScriptValue) (history marks : List (ℕ × ℕ)) (replies : List Reply) (contents : List Items) (stats : List Stats)
-    → AllByRecursion IsShort history → AllByRecursion IsShort marks
-    → (history_named (report_of script history marks replies contents stats) ≡ map Some history) × (marks_named (report_of script history marks replies contents stats) ≡ map Some marks)
+NamesItsHistory = (script : ScriptValue) (history : List (ℕ × ℕ)) (marks : ℕ → ℕ → Bool) (replies : List Reply) (contents : List Items) (stats : List Stats)
+    → AllByRecursion IsShort history → AllByRecursion IsShort (marks_in script marks)
+    → (history_named (report_of script history marks replies contents stats) ≡ map Some history) × (marks_named (report_of script history marks replies contents stats) ≡ map Some (marks_in script marks))

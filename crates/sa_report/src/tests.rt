@@ -1,8 +1,8 @@
 use crate::fault_line;
-use crate::writing::{push_call_line, push_pair};
-use sa_base::Memory;
+use crate::writing::{push_call_line, push_memory_line, push_pair};
+use sa_base::{Memory, Stats};
+use sa_call::{ByteList, EntryList, Picture, Reply};
 use sa_plain::{Items, ValueList, push_items};
-use sa_script::Reply;
 use sa_text::{Text, Value};
 use std::alloc::Global;
 use std::test::Fail;
@@ -53,6 +53,40 @@ fn calls_have_their_lines(rt: HostRuntime) -> Result<(), Fail> {
     assert_eq!(rt;
         out.as_slice(),
         b"0 done\n1 shown (\"hi\")\n1023 refused 4 8191\n 63:1023".as_slice()
+    );
+    Ok(())
+}
+
+/// The picture of these slots and of these bytes of an arena.
+fn pictured(alloc: Global, slots: &[[u8; 16]], arena: &[u8]) -> Result<Reply, Memory> {
+    Ok(Reply::Pictured(Picture {
+        entries: EntryList::from_slice(alloc, slots)?,
+        arena: ByteList::from_slice(alloc, arena)?,
+    }))
+}
+
+#[test]
+fn sizes_and_pictures_have_their_lines(rt: HostRuntime) -> Result<(), Memory> {
+    let alloc = rt.alloc();
+    let mut out = Vec::new(alloc);
+    let stats = Stats {
+        cursor: 96,
+        live: 64,
+        dead: 32,
+        outside: 1,
+    };
+    let slot = [1, 35, 69, 103, 137, 171, 205, 239, 0, 0, 0, 0, 0, 0, 0, 255];
+    push_call_line(&mut out, 0, &Reply::Sized(stats))?;
+    push_call_line(&mut out, 1, &pictured(alloc, &[], &[])?)?;
+    push_call_line(
+        &mut out,
+        2,
+        &pictured(alloc, &[[0; 16], slot], &[0, 15, 160])?,
+    )?;
+    push_memory_line(&mut out, 3)?;
+    assert_eq!(rt;
+        out.as_slice(),
+        b"0 sized 96 64 32 1\n1 picture arena -\n2 picture 00000000000000000000000000000000 0123456789abcdef00000000000000ff arena 000fa0\n3 memory\n".as_slice()
     );
     Ok(())
 }

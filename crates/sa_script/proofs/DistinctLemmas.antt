@@ -7,7 +7,7 @@ use Rattle.std.proofs.lemmas.Bool.Decides.{same_from_decides, Decides-like}
 use Rattle.std.proofs.lemmas.Map.Keys.{IsDistinct-cons, IsDistinct-head, IsDistinct-tail}
 use Rattle.std.proofs.lemmas.Slice.Eq.{bytes_eq-Decides}
 use Rattle.sa_script.specs.Contexts.{number_in, is_known}
-use Rattle.sa_script.specs.Decls.{Known}
+use Rattle.sa_script.specs.Names.{Known}
 use Rattle.sa_script.proofs.ListLemmas.{all_weaker}
 
 -- where no place is found, no element passes

@@ -5,5 +5,8 @@ pub mod ItemLemmas
 pub mod LineLemmas
 pub mod ListLemmas
 pub mod NameLemmas
+pub mod ReadingLemmas
+pub mod ResolvingLemmas
 pub mod SoundLemmas
 pub mod SpelledLemmas
+pub mod ValidLemmas

@@ -1,57 +1,49 @@
 -- A statement without a fault keeps what the lines declare sound.
-use Rattle.std.proofs.Common.{◌≡◌, ℕ, suc, ◌+◌, ◌<◌, ◌≤◌, Bool, true, false, not, ◌||◌, cond, eqb, nat_lt, nat_le, ℤ, pos, negsuc, List, [], ◌∷◌, ◌++◌, length, Option, Some, None, is_none, unwrap_or, refl, ap, subst, arith, length-append, sum_by}
+use Rattle.std.proofs.Common.{◌≡◌, ℕ, suc, ◌+◌, ◌<◌, ◌≤◌, Bool, true, false, not, ◌||◌, cond, eqb, nat_lt, nat_le, ℤ, pos, negsuc, List, [], ◌∷◌, ◌++◌, length, Option, Some, None, is_none, unwrap_or, refl, ap, subst, arith, length-append, sum_by, inl, inr}
 use Rattle.std.specs.List.{AllByRecursion, IsDistinct}
 use Rattle.std.specs.Option.{IfSome}
-use Rattle.std.proofs.lemmas.Bool.{or_parts, ltb-false, leb-false, lt-ltb, eqb-true}
+use Rattle.std.proofs.lemmas.Bool.{or_parts, not-false, ltb-false, leb-false, lt-ltb, eqb-true}
 use Rattle.std.proofs.lemmas.List.Sums.{sum_by-append}
-use Rattle.std.proofs.lemmas.List.Quantifiers.{position-Some}
 use Rattle.sa_descr.specs.declared.descr.NaRule.{NaRule}
 use Rattle.sa_descr.specs.declared.descr.NaRule.TheVariants.{Absent}
-use Rattle.sa_plain.specs.declared.items.Items.TheVariants.{Values}
-use Rattle.sa_script.specs.declared.decls.Kind.TheVariants as kind
-use Rattle.sa_text.specs.declared.value.Value.{Value}
-use Rattle.sa_script.specs.declared.call.Call.{Call}
+use Rattle.sa_call.specs.declared.decls.Kind.TheVariants as kind
+use Rattle.sa_call.specs.declared.decls.ArrayDecl.{ArrayDecl}
+use Rattle.sa_call.specs.declared.call.Call.{Call}
+use Rattle.sa_call.specs.Calls.{lengths_fit}
+use Rattle.sa_call.specs.Decls.{Declared, entries_of, entries_at}
+use Rattle.sa_call.specs.Valid.{IsCall}
 use Rattle.sa_script.specs.declared.cause.Cause.TheVariants as cause
 use Rattle.sa_script.specs.declared.context.Context.{Context}
-use Rattle.sa_script.specs.declared.decls.ArrayDecl.{ArrayDecl}
 use Rattle.sa_script.specs.declared.statement.Statement.{Statement}
 use Rattle.sa_script.specs.declared.statement.Statement.TheVariants as statement
-use Rattle.sa_script.specs.Calls.{with_call, whole, set_call, show_call, lengths_fit}
-use Rattle.sa_script.specs.Contexts.{nothing, context_after, with_descr, with_array, with_task, with_last, used_array, used_length, array_number, descr_number, home_number, number_in, is_known, length_allowed}
-use Rattle.sa_script.specs.Decls.{Declared, entries_of, entries_at}
-use Rattle.sa_script.specs.Faults.{fault_of, out_of_order, misnamed, over_limit, bad_lengths, count_in, passes_entries, is_long}
+use Rattle.sa_script.specs.Contexts.{nothing, with_call, with_descr, with_array, with_task, with_last, descr_number, home_number, is_known, length_allowed}
+use Rattle.sa_script.specs.Faults.{fault_of, misplaced, out_of_order, misnamed, over_limit, bad_view, bad_lengths, passes_entries, is_long}
 use Rattle.sa_script.specs.Names.{name_of}
-use Rattle.sa_script.specs.Sound.{IsCall, AreCalls, IsWhole, IsDeclaredName, IsRule, HasTextRule, IsLiteral}
+use Rattle.sa_script.specs.Scripts.{statement_adds, context_after}
+use Rattle.sa_script.specs.Sound.{AreCalls, IsDeclaredName, IsRule, HasTextRule}
 use Rattle.sa_script.specs.SoundContexts.{IsSoundContext}
+use Rattle.sa_script.specs.Spelled.{IsSpelled}
+use Rattle.sa_script.specs.Terms.{line_passes, call_in}
 use Rattle.sa_script.proofs.DistinctLemmas.{distinct_descr, distinct_array}
 use Rattle.sa_script.proofs.ListLemmas.{all_weaker, all_push}
-use Rattle.sa_script.proofs.SpelledLemmas.{IsSpelled}
+use Rattle.sa_script.proofs.ValidLemmas.{found_below, line-valid}
 
 -- a chain of tests that gives nothing fails each of them
-record NoneOf (p q r s : Bool) : Type 0 where
-  first : p ≡ false
+record NoneOf (p q r s t u : Bool) : Type 0 where
   second : q ≡ false
   third : r ≡ false
   fourth : s ≡ false
+  fifth : t ≡ false
+  sixth : u ≡ false
 
-none_of : {A : Type 0} (p q r s : Bool) (a b c d : A) → cond p (Some a) (cond q (Some b) (cond r (Some c) (cond s (Some d) None))) ≡ None → NoneOf p q r s
-none_of true q r s a b c d e = cc
-none_of false true r s a b c d e = cc
-none_of false false true s a b c d e = cc
-none_of false false false true a b c d e = cc
-none_of false false false false a b c d e = record { first = refl; second = refl; third = refl; fourth = refl }
-
-not_false : (p : Bool) → not p ≡ false → p ≡ true
-not_false true e = refl
-not_false false e = cc
-
--- a number that is among a list's places
-found_below : (names : List (List ℕ)) (name : List ℕ) → is_none (number_in names name) ≡ false → unwrap_or (number_in names name) 0 < length names
-found_below names name e = go (number_in names name) refl e
-  where
-    go : (o : Option ℕ) → number_in names name ≡ o → is_none o ≡ false → unwrap_or o 0 < length names
-    go None same e = cc
-    go (Some i) same e = (position-Some _ names i [] same).0
+none_of : {A : Type 0} (p q r s t u : Bool) (a b c d e f : A) → cond p (Some a) (cond q (Some b) (cond r (Some c) (cond s (Some d) (cond t (Some e) (cond u (Some f) None))))) ≡ None → NoneOf p q r s t u
+none_of true q r s t u a b c d e f none = cc
+none_of false true r s t u a b c d e f none = cc
+none_of false false true s t u a b c d e f none = cc
+none_of false false false true t u a b c d e f none = cc
+none_of false false false false true u a b c d e f none = cc
+none_of false false false false false true a b c d e f none = cc
+none_of false false false false false false a b c d e f none = record { second = refl; third = refl; fourth = refl; fifth = refl; sixth = refl }
 
 -- before the first task there are no calls
 no_calls : (d : Declared) (tasks : List (List Call)) → nat_lt 0 (length tasks) ≡ false → AreCalls d tasks
@@ -81,6 +73,7 @@ descr_after c name rule coerce s named_so new text untasked few =
     let longer = length-append c.descrs ((record { na = rule; coerce = coerce }) ∷ []) in
     let named = length-append c.names.descrs (name ∷ []) in
     record {
+      version = s.version;
       sound = record {
         declared = record {
           homes = all_weaker (λ (a : ArrayDecl). a.home < length c.descrs) (λ (a : ArrayDecl). a.home < length (c.descrs ++ (record { na = rule; coerce = coerce }) ∷ [])) c.arrays (λ a below. omega arith) d.homes;
@@ -125,6 +118,7 @@ array_after c name home len s named_so new_name untasked few known fits =
     let named = length-append c.names.arrays (name ∷ []) in
     let below : home_number c home < length c.descrs = subst (λ n. home_number c home < n) s.sound.descr_names (found_below c.names.descrs home known) in
     record {
+      version = s.version;
       sound = record {
         declared = record {
           homes = all_push (λ (a : ArrayDecl). a.home < length c.descrs) c.arrays new d.homes below;
@@ -151,6 +145,7 @@ array_after c name home len s named_so new_name untasked few known fits =
 with_tasks : (c : Context) (tasks : List (List Call)) (calls : ℕ) → IsSoundContext c → length tasks ≤ 64 → sum_by (λ (t : List Call). length t) tasks ≡ calls → calls ≤ 1024
     → AreCalls (record { descrs = c.descrs; arrays = c.arrays }) tasks → IsSoundContext (record c { tasks = tasks; calls = calls })
 with_tasks c tasks calls s few counted most valid = record {
+  version = s.version;
   sound = record {
     declared = s.sound.declared;
     descr_names = s.sound.descr_names;
@@ -198,38 +193,20 @@ call_after : (c : Context) (call : Call) → IsSoundContext c → not (nat_lt 0 
 call_after c call s tasked few valid =
     let room = leb-false 1024 c.calls few in
     let longer = length-with_call c.tasks call in
-    let whole = sum-with_call c.tasks call (not_false (nat_lt 0 (length c.tasks)) tasked) in
+    let whole = sum-with_call c.tasks call (not-false (nat_lt 0 (length c.tasks)) tasked) in
     let counted : sum_by (λ (t : List Call). length t) c.tasks ≡ c.calls = s.counted in
     let tasks_before = s.sound.few_tasks in
     with_tasks c (with_call c.tasks call) (c.calls + 1) s (omega arith) (omega arith) (omega arith) (calls-with_call (record { descrs = c.descrs; arrays = c.arrays }) c.tasks call s.sound.valid valid)
 
--- the view of a whole used array
-whole_after : (c : Context) (name : List ℕ) → IsSoundContext c → is_none (array_number c name) ≡ false → IsWhole (record { descrs = c.descrs; arrays = c.arrays }) (whole (used_array c name) (used_length c name))
-whole_after c name s known = record {
-  declared = subst (λ n. used_array c name < n) s.sound.array_names (found_below c.names.arrays name known);
-  from_start = refl;
-  all = refl;
-  by_one = refl;
-}
-
--- a list that passes no limit has as many items as were counted
-list_fits : (items : Option (List Value)) (len : ℕ) → is_none items ≡ false → not (lengths_fit (count_in items ∷ []) len) ≡ false → lengths_fit (length (unwrap_or items []) ∷ []) len ≡ true
-list_fits None len e f = cc
-list_fits (Some items) len e f = not_false (lengths_fit (length items ∷ []) len) f
-
--- and is a literal
-list_is : (items : Option (List Value)) → is_none items ≡ false → IfSome items (λ (values : List Value). IsLiteral (Values values)) → IsLiteral (Values (unwrap_or items []))
-list_is None e is = cc
-list_is (Some items) e is = is
-
 -- what it says of a statement that it has no fault
-faultless : (c : Context) (s : Statement) → fault_of c s ≡ None → NoneOf (out_of_order c s) (misnamed c s) (over_limit c s) (bad_lengths c s)
-faultless c s e = none_of (out_of_order c s) (misnamed c s) (over_limit c s) (bad_lengths c s) cause.Order cause.Name cause.Limit cause.Lengths e
+faultless : (c : Context) (s : Statement) → fault_of c s ≡ None → NoneOf (misplaced c s) (out_of_order c s) (misnamed c s) (over_limit c s) (bad_view c s) (bad_lengths c s)
+faultless c s e = none_of (misplaced c s) (out_of_order c s) (misnamed c s) (over_limit c s) (bad_view c s) (bad_lengths c s) cause.Syntax cause.Order cause.Name cause.Limit cause.View cause.Lengths e
 
 -- before the first line
 pub sound_nothing : IsSoundContext nothing
 unfolding IsDistinct
 sound_nothing = record {
+  version = inl refl;
   sound = record {
     declared = record { homes = tt; descrs = omega arith; arrays = omega arith; entries = λ home. omega arith };
     descr_names = refl;
@@ -243,29 +220,28 @@ sound_nothing = record {
   counted = refl;
 }
 
-pub sound_after : (c : Context) (s : Statement) → IsSoundContext c → IsSpelled s → fault_of c s ≡ None → IsSoundContext (context_after c s)
-sound_after c (statement.Descr name rule coerce) s spelled e =
+adds_sound : (c : Context) (s : Statement) → IsSoundContext c → IsSpelled s → fault_of c s ≡ None → IsSoundContext (statement_adds c s)
+adds_sound c statement.Version s spelled e = record { version = inr refl; sound = s.sound; counted = s.counted }
+adds_sound c (statement.Descr name rule coerce) s spelled e =
     let none = faultless c (statement.Descr name rule coerce) e in
-    let order = or_parts c.ended (nat_lt 0 (length c.tasks)) none.first in
-    let limit = or_parts (is_long name || is_none rule) (nat_le 8 (length c.descrs)) none.third in
+    let order = or_parts c.ended (nat_lt 0 (length c.tasks)) none.second in
+    let limit = or_parts (is_long name || is_none rule) (nat_le 8 (length c.descrs)) none.fourth in
     let short = or_parts (is_long name) (is_none rule) limit.0 in
-    descr_after c name (unwrap_or rule Absent) coerce s (declared_name name spelled.0 short.0) none.second (given_rule rule spelled.1) order.1 limit.1
-sound_after c (statement.Array name home len) s spelled e =
+    descr_after c name (unwrap_or rule Absent) coerce s (declared_name name spelled.0 short.0) none.third (given_rule rule spelled.1) order.1 limit.1
+adds_sound c (statement.Array name home len) s spelled e =
     let none = faultless c (statement.Array name home len) e in
-    let order = or_parts c.ended (nat_lt 0 (length c.tasks)) none.first in
-    let names = or_parts (is_known c.names name) (is_none (descr_number c home)) none.second in
-    let limit = or_parts (is_long name || nat_le 64 (length c.arrays)) (passes_entries (entries_of c.arrays (home_number c home)) len) none.third in
+    let order = or_parts c.ended (nat_lt 0 (length c.tasks)) none.second in
+    let names = or_parts (is_known c.names name) (is_none (descr_number c home)) none.third in
+    let limit = or_parts (is_long name || nat_le 64 (length c.arrays)) (passes_entries (entries_of c.arrays (home_number c home)) len) none.fourth in
     let few = or_parts (is_long name) (nat_le 64 (length c.arrays)) limit.0 in
     array_after c name home len s (declared_name name spelled few.0) names.0 order.1 few.1 names.1 limit.1
-sound_after c statement.Task s spelled e = let none = faultless c statement.Task e in task_after c s none.third
-sound_after c (statement.Set name items) s spelled e =
-    let none = faultless c (statement.Set name items) e in
-    let order = or_parts c.ended (not (nat_lt 0 (length c.tasks))) none.first in
-    let limit = or_parts (is_none items) (nat_le 1024 c.calls) none.third in
-    call_after c (set_call (used_array c name) (used_length c name) (unwrap_or items [])) s order.1 limit.1
-    (whole_after c name s none.second, list_fits items (used_length c name) limit.0 none.fourth, list_is items limit.0 spelled)
-sound_after c (statement.Show name) s spelled e =
-    let none = faultless c (statement.Show name) e in
-    let order = or_parts c.ended (not (nat_lt 0 (length c.tasks))) none.first in
-    call_after c (show_call (used_array c name) (used_length c name)) s order.1 none.third (whole_after c name s none.second)
-sound_after c statement.End s spelled e = record { sound = s.sound; counted = s.counted }
+adds_sound c statement.Task s spelled e = let none = faultless c statement.Task e in task_after c s none.fourth
+adds_sound c (statement.Call l) s spelled e =
+    let none = faultless c (statement.Call l) e in
+    let order = or_parts c.ended (not (nat_lt 0 (length c.tasks))) none.second in
+    let limit = or_parts (line_passes l) (nat_le 1024 c.calls) none.fourth in
+    call_after c (call_in c l) s order.1 limit.1 (line-valid c l s spelled none.third limit.0 none.fifth (not-false (lengths_fit (call_in c l)) none.sixth))
+adds_sound c statement.End s spelled e = record { version = s.version; sound = s.sound; counted = s.counted }
+
+pub sound_after : (c : Context) (s : Statement) → IsSoundContext c → IsSpelled s → fault_of c s ≡ None → IsSoundContext (context_after c s)
+sound_after c s sound spelled e = let after = adds_sound c s sound spelled e in record { version = after.version; sound = after.sound; counted = after.counted }

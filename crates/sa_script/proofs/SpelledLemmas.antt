@@ -1,7 +1,8 @@
 -- What a line spells: its names are names, its texts are texts, and its list is a literal where it passes no limit.
-use Rattle.std.proofs.Common.{◌≡◌, ℕ, zero, suc, Bool, true, false, cond, ◌&&◌, not, eqb, nat_lt, List, [], ◌∷◌, ◌++◌, length, Option, Some, None, option_map, Result, Ok, Err, codes, refl, subst, arith, length-append}
+use Rattle.std.proofs.Common.{◌≡◌, ℕ, zero, suc, Bool, true, false, cond, ◌&&◌, not, eqb, nat_lt, List, [], ◌∷◌, ◌++◌, length, Option, Some, None, option_map, is_some, is_none, Result, Ok, Err, codes, refl, ap, subst, ◌∙◌, arith, length-append}
 use Rattle.std.specs.List.{AllByRecursion}
 use Rattle.std.specs.Option.{IfSome}
+use Rattle.std.proofs.lemmas.Bool.{ltb-true}
 use Rattle.std.proofs.lemmas.Option.{same_Some}
 use Rattle.sa_lines.specs.Options.{◌>>=◌}
 use Rattle.sa_lines.specs.Quotes.{quoted_at}
@@ -13,7 +14,6 @@ use Rattle.sa_text.specs.declared.text_error.TextError.TheVariants as errors
 use Rattle.sa_text.specs.declared.value.Value.{Value}
 use Rattle.sa_text.specs.declared.value.Value.TheVariants.{Missing}
 use Rattle.sa_text.proofs.TextLemmas.{text_of-text}
-use Rattle.sa_plain.specs.declared.items.Items.TheVariants.{Values}
 use Rattle.sa_descr.specs.declared.descr.NaRule.{NaRule}
 use Rattle.sa_descr.specs.declared.descr.NaRule.TheVariants.{Absent, Nan, Other, Txt}
 use Rattle.sa_script.specs.declared.statement.Statement.{Statement}
@@ -21,18 +21,20 @@ use Rattle.sa_script.specs.declared.statement.Statement.TheVariants as statement
 use Rattle.sa_script.specs.Items.{fitting, text_at, nothing_left, text_token, of_text, missing_at, item_at, one_more, uncons, further_at, items_at, list_of}
 use Rattle.sa_script.specs.Limits.{most_items}
 use Rattle.sa_script.specs.Names.{name_of, is_name, is_reserved}
-use Rattle.sa_script.specs.Sound.{IsLiteral, IsRule}
-use Rattle.sa_script.specs.Statements.{text_rule_of, rule_of, coerce_of, descr_of, length_of, array_of, set_of, show_of, alone, statement_of}
+use Rattle.sa_script.specs.Sound.{IsRule}
+use Rattle.sa_script.specs.Spelled.{IsList, IsTerm, AreTerms, output_given, IsSpelled}
+use Rattle.sa_script.specs.Views.{view_of}
+use Rattle.sa_call.specs.declared.call.Op.{Op}
+use Rattle.sa_call.specs.declared.form.Sort.{Sort}
+use Rattle.sa_call.specs.declared.form.Sort.TheVariants as sort
+use Rattle.sa_call.specs.declared.form.Into.{Into}
+use Rattle.sa_call.specs.declared.form.Into.TheVariants as into
+use Rattle.sa_call.specs.Forms.{entry, op_of}
+use Rattle.sa_script.specs.declared.statement.ViewTerm.{ViewTerm}
+use Rattle.sa_script.specs.declared.statement.Term.{Term}
+use Rattle.sa_script.specs.declared.statement.Term.TheVariants as term
+use Rattle.sa_script.specs.Statements.{text_rule_of, rule_of, coerce_of, descr_of, length_of, array_of, version_of, call_of, front_of, term_of, terms_of, into_of, nothing_behind, behind_of, alone, statement_of}
 use Rattle.sa_script.proofs.ListLemmas.{all_push}
-
--- what holds of a statement that tokens spell
-abbrev pub IsSpelled : Statement → Type 0
-IsSpelled (statement.Descr name rule coerce) = (name_of name ≡ Some name) × IfSome rule IsRule
-IsSpelled (statement.Array name home len) = name_of name ≡ Some name
-IsSpelled statement.Task = Unit {0}
-IsSpelled (statement.Set name items) = IfSome items (λ (values : List Value). IsLiteral (Values values))
-IsSpelled (statement.Show name) = Unit {0}
-IsSpelled statement.End = Unit {0}
 
 -- what was read of a reading after another, and of a choice of two
 record Bound {A B : Type 0} (o : Option A) (f : A → Option B) (y : B) : Type 0 where
@@ -104,23 +106,21 @@ item_value (b ∷ bs) i e =
 abbrev AreTexts : Option (List Value) → Type 0
 AreTexts items = IfSome items (AllByRecursion IsTextValue)
 
-abbrev IsList : Option (List Value) → Type 0
-IsList items = IfSome items (λ (values : List Value). IsLiteral (Values values))
-
 list_texts : (items : Option (List Value)) → IsList items → AreTexts items
 list_texts None is = tt
 list_texts (Some values) is = is.texts
 
-pushed : (b : Bool) (values : List Value) (value : Value) → AllByRecursion IsTextValue values → IsTextValue value → IsList (cond b (Some (values ++ value ∷ [])) None)
-pushed false values value before text = tt
-pushed true values value before text =
+pushed : (b : Bool) (values : List Value) (value : Value) → nat_lt (length values) most_items ≡ b → AllByRecursion IsTextValue values → IsTextValue value → IsList (cond b (Some (values ++ value ∷ [])) None)
+pushed false values value room before text = tt
+pushed true values value room before text =
     let longer = length-append values (value ∷ []) in
-    record { some = omega arith; texts = all_push IsTextValue values value before text }
+    let below = ltb-true (length values) 8192 room in
+    record { some = omega arith; few = omega arith; texts = all_push IsTextValue values value before text }
 
 one_more_list : (items : Option (List Value)) (item : Option Value) → AreTexts items → IfSome item IsTextValue → IsList (one_more items item)
 one_more_list None item before text = tt
 one_more_list (Some values) None before text = tt
-one_more_list (Some values) (Some value) before text = pushed (nat_lt (length values) most_items) values value before text
+one_more_list (Some values) (Some value) before text = pushed (nat_lt (length values) most_items) values value refl before text
 
 further_list : (so_far : Option (List Value)) (bs : List ℕ) (f : Option (List Value) × ℕ × List ℕ) → AreTexts so_far → further_at so_far bs ≡ Some f → IsList f.0
 further_list so_far bs f before e =
@@ -191,19 +191,71 @@ array_spelled (n ∷ d ∷ ts) s e =
     let len = bound (length_of ts) _ s home.then in
     subst IsSpelled (same_Some _ s len.then) (name_spelled n name.value name.first)
 
-set_spelled : (ts : List (List ℕ)) (s : Statement) → set_of ts ≡ Some s → IsSpelled s
-set_spelled [] s e = cc
-set_spelled (v ∷ []) s e = cc
-set_spelled (v ∷ l ∷ []) s e =
-    let name = bound (name_of v) _ s e in
-    let items = bound (list_of l) _ s name.then in
-    subst IsSpelled (same_Some _ s items.then) (list_spelled l items.value items.first)
-set_spelled (v ∷ l ∷ t ∷ ts) s e = cc
+-- the line of a call
+is_term : (sort : Sort) (token : List ℕ) (t : Term) → term_of sort token ≡ Some t → IsTerm sort t
+is_term sort.View token t e = go (view_of token) e
+  where
+    go : (o : Option ViewTerm) → option_map (λ v. term.View v) o ≡ Some t → IsTerm sort.View t
+    go None e = cc
+    go (Some v) e = subst (IsTerm sort.View) (same_Some _ t e) tt
+is_term sort.Literal token t e = go (list_of token) refl e
+  where
+    go : (o : Option (Option (List Value))) → list_of token ≡ o → option_map (λ items. term.List items) o ≡ Some t → IsTerm sort.Literal t
+    go None is e = cc
+    go (Some items) is e = subst (IsTerm sort.Literal) (same_Some _ t e) (list_spelled token items is)
+is_term sort.Descr token t e = go (name_of token) e
+  where
+    go : (o : Option (List ℕ)) → option_map (λ name. term.Descr name) o ≡ Some t → IsTerm sort.Descr t
+    go None e = cc
+    go (Some name) e = subst (IsTerm sort.Descr) (same_Some _ t e) tt
 
-show_spelled : (ts : List (List ℕ)) (s : Statement) → show_of ts ≡ Some s → IsSpelled s
-show_spelled [] s e = cc
-show_spelled (v ∷ []) s e = let name = bound (name_of v) _ s e in subst IsSpelled (same_Some _ s name.then) tt
-show_spelled (v ∷ t ∷ ts) s e = cc
+are_terms : (sorts : List Sort) (ts : List (List ℕ)) (r : List Term × List (List ℕ)) → terms_of sorts ts ≡ Some r → AreTerms sorts r.0
+are_terms [] ts r e = subst (λ (x : List Term × List (List ℕ)). AreTerms [] x.0) (same_Some _ r e) tt
+are_terms (s ∷ ss) [] r e = cc
+are_terms (s ∷ ss) (t ∷ ts) r e =
+    let one = bound (term_of s t) _ r e in
+    let more = bound (terms_of ss ts) _ r one.then in
+    subst (λ (x : List Term × List (List ℕ)). AreTerms (s ∷ ss) x.0) (same_Some _ r more.then) (is_term s t one.value one.first, are_terms ss ts more.value more.first)
+
+nothing_behind-is : (front out : Option ViewTerm) (ts : List (List ℕ)) → nothing_behind front ts ≡ Some out → front ≡ out
+nothing_behind-is front out [] e = same_Some front out e
+nothing_behind-is front out (t ∷ ts) e = cc
+
+into_given : (ts : List (List ℕ)) (out : Option ViewTerm) → into_of ts ≡ Some out → is_some out ≡ true
+into_given [] out e = cc
+into_given (w ∷ []) out e = cc
+into_given (w ∷ v ∷ []) out e = chosen (is_word (codes "into") w) (option_map (λ o. Some o) (view_of v)) None out (λ o. is_some o ≡ true) (λ f. go (view_of v) f) (λ f. cc) e
+  where
+    go : (o : Option ViewTerm) → option_map (λ o. Some o) o ≡ Some out → is_some out ≡ true
+    go None f = cc
+    go (Some view) f = subst (λ o. is_some o ≡ true) (same_Some _ out f) refl
+into_given (w ∷ v ∷ t ∷ ts) out e = cc
+
+output_is : (place : Into) (ts rest : List (List ℕ)) (f : Option ViewTerm × List (List ℕ)) (out : Option ViewTerm) → front_of place ts ≡ Some f → behind_of place f.0 rest ≡ Some out → output_given place out ≡ true
+output_is into.Never ts rest f out first behind =
+    let none = ap (λ (x : Option ViewTerm × List (List ℕ)). x.0) (same_Some _ f first) in
+    subst (λ o. is_none o ≡ true) (none ∙ nothing_behind-is f.0 out rest behind) refl
+output_is into.Must ts rest f out first behind = into_given rest out behind
+output_is into.First [] rest f out first behind = cc
+output_is into.First (t ∷ ts) rest f out first behind =
+    let v = bound (view_of t) _ f first in
+    let some = ap (λ (x : Option ViewTerm × List (List ℕ)). x.0) (same_Some _ f v.then) in
+    subst (λ o. is_some o ≡ true) (some ∙ nothing_behind-is f.0 out rest behind) refl
+
+call_spelled : (op : Op) (ts : List (List ℕ)) (s : Statement) → call_of op ts ≡ Some s → IsSpelled s
+call_spelled op ts s e =
+    let f = bound (front_of (entry op).into ts) _ s e in
+    let r = bound (terms_of (entry op).needs f.value.1) _ s f.then in
+    let out = bound (behind_of (entry op).into f.value.0 r.value.1) _ s r.then in
+    subst IsSpelled (same_Some _ s out.then) (record {
+      terms = are_terms (entry op).needs f.value.1 r.value r.first;
+      output = output_is (entry op).into ts r.value.1 f.value out.value f.first out.first;
+    })
+
+version_spelled : (ts : List (List ℕ)) (s : Statement) → version_of ts ≡ Some s → IsSpelled s
+version_spelled [] s e = cc
+version_spelled (t ∷ []) s e = chosen (is_word (codes "2") t) (Some statement.Version) None s IsSpelled (λ f. subst IsSpelled (same_Some _ s f) tt) (λ f. cc) e
+version_spelled (t ∷ u ∷ ts) s e = cc
 
 alone_spelled : (word : Statement) (ts : List (List ℕ)) (s : Statement) → IsSpelled word → alone word ts ≡ Some s → IsSpelled s
 alone_spelled word [] s is e = subst IsSpelled (same_Some word s e) is
@@ -212,9 +264,9 @@ alone_spelled word (t ∷ ts) s is e = cc
 pub statement_spelled : (tokens : List (List ℕ)) (s : Statement) → statement_of tokens ≡ Some s → IsSpelled s
 statement_spelled [] s e = cc
 statement_spelled (w ∷ ts) s e =
-    chosen (is_word (codes "descr") w) (descr_of ts) _ s IsSpelled (λ f. descr_spelled ts s f)
+    chosen (is_word (codes "version") w) (version_of ts) _ s IsSpelled (λ f. version_spelled ts s f)
+    (chosen (is_word (codes "descr") w) (descr_of ts) _ s IsSpelled (λ f. descr_spelled ts s f)
     (chosen (is_word (codes "array") w) (array_of ts) _ s IsSpelled (λ f. array_spelled ts s f)
     (chosen (is_word (codes "task") w) (alone statement.Task ts) _ s IsSpelled (λ f. alone_spelled statement.Task ts s tt f)
-    (chosen (is_word (codes "set") w) (set_of ts) _ s IsSpelled (λ f. set_spelled ts s f)
-    (chosen (is_word (codes "show") w) (show_of ts) _ s IsSpelled (λ f. show_spelled ts s f)
-    (chosen (is_word (codes "end") w) (alone statement.End ts) None s IsSpelled (λ f. alone_spelled statement.End ts s tt f) (λ f. cc)))))) e
+    (chosen (is_word (codes "end") w) (alone statement.End ts) _ s IsSpelled (λ f. alone_spelled statement.End ts s tt f)
+    (λ f. let op = bound (op_of w) _ s f in call_spelled op.value ts s op.then))))) e

@@ -2,15 +2,12 @@
 use Rattle.std.specs.Prelude.{ℕ, ◌+◌, ℤ, Bool, true, false, ◌||◌, List, [], ◌∷◌, ◌++◌, Option, Some, None, unwrap_or, is_some, position}
 use Rattle.std.specs.Str.{bytes_eq}
 use Rattle.sa_descr.specs.declared.descr.NaRule.{NaRule}
-use Rattle.sa_descr.specs.declared.descr.NaRule.TheVariants.{Absent}
-use Rattle.sa_script.specs.declared.decls.Kind.TheVariants as kind
-use Rattle.sa_script.specs.declared.call.Call.{Call}
+use Rattle.sa_view.specs.Views.{natural}
+use Rattle.sa_call.specs.declared.decls.Kind.TheVariants as kind
+use Rattle.sa_call.specs.declared.call.Call.{Call}
+use Rattle.sa_call.specs.Decls.{length_at}
 use Rattle.sa_script.specs.declared.context.Context.{Context}
-use Rattle.sa_script.specs.declared.statement.Statement.{Statement}
-use Rattle.sa_script.specs.declared.statement.Statement.TheVariants as statement
-use Rattle.sa_script.specs.Decls.{Known, length_at}
-use Rattle.sa_script.specs.Calls.{set_call, show_call, with_call}
-use Rattle.sa_script.specs.Views.{natural}
+use Rattle.sa_script.specs.Names.{Known}
 
 -- the number of a name among these, none where it is not among them
 abbrev pub number_in : List (List ℕ) → List ℕ → Option ℕ
@@ -40,7 +37,7 @@ used_length c name = length_at c.arrays (used_array c name)
 
 -- nothing is declared before the first line
 abbrev pub nothing : Context
-nothing = record { descrs = []; arrays = []; names = record { descrs = []; arrays = [] }; tasks = []; calls = 0; ended = false }
+nothing = record { version = 1; begun = false; descrs = []; arrays = []; names = record { descrs = []; arrays = [] }; tasks = []; calls = 0; ended = false }
 
 -- a length that a limit allows, 0 in place of each other
 abbrev pub length_allowed : Option ℤ → ℕ
@@ -56,15 +53,16 @@ with_array c name home len = record c { arrays = c.arrays ++ (record { home = ho
 abbrev pub with_task : Context → Context
 with_task c = record c { tasks = c.tasks ++ [] ∷ [] }
 
+-- the calls with one more at the end of the last task's
+abbrev pub with_call : List (List Call) → Call → List (List Call)
+with_call [] call = []
+with_call (t ∷ []) call = (t ++ call ∷ []) ∷ []
+with_call (t ∷ u ∷ ts) call = t ∷ with_call (u ∷ ts) call
+
 -- one more call of the last task
 abbrev pub with_last : Context → Call → Context
 with_last c call = record c { tasks = with_call c.tasks call; calls = c.calls + 1 }
 
--- what is declared after a statement without a fault
-abbrev pub context_after : Context → Statement → Context
-context_after c (statement.Descr name rule coerce) = with_descr c name (unwrap_or rule Absent) coerce
-context_after c (statement.Array name home len) = with_array c name (home_number c home) (length_allowed len)
-context_after c statement.Task = with_task c
-context_after c (statement.Set name items) = with_last c (set_call (used_array c name) (used_length c name) (unwrap_or items []))
-context_after c (statement.Show name) = with_last c (show_call (used_array c name) (used_length c name))
-context_after c statement.End = record c { ended = true }
+-- a statement was read
+abbrev pub with_begun : Context → Context
+with_begun c = record c { begun = true }

@@ -1,13 +1,14 @@
 -- The faults of a script: for each, whether a statement has it in its place. This project's own rules.
-use Rattle.std.specs.Prelude.{ℕ, ◌+◌, nat_le, nat_lt, ℤ, pos, negsuc, Bool, true, false, ◌||◌, not, List, [], ◌∷◌, length, Option, Some, None, is_none, if◌then◌else◌}
+use Rattle.std.specs.Prelude.{ℕ, ◌+◌, nat_le, nat_lt, ◌==◌, ℤ, pos, negsuc, Bool, true, false, ◌||◌, ◌&&◌, not, List, length, Option, Some, None, is_none, if◌then◌else◌}
 use Rattle.sa_script.specs.declared.cause.Cause.{Cause}
 use Rattle.sa_script.specs.declared.cause.Cause.TheVariants as cause
 use Rattle.sa_script.specs.declared.context.Context.{Context}
 use Rattle.sa_script.specs.declared.statement.Statement.{Statement}
 use Rattle.sa_script.specs.declared.statement.Statement.TheVariants as statement
-use Rattle.sa_script.specs.Calls.{lengths_fit}
-use Rattle.sa_script.specs.Contexts.{is_known, descr_number, home_number, array_number, used_length}
-use Rattle.sa_script.specs.Decls.{entries_of}
+use Rattle.sa_call.specs.Calls.{lengths_fit}
+use Rattle.sa_call.specs.Decls.{entries_of}
+use Rattle.sa_script.specs.Contexts.{is_known, descr_number, home_number}
+use Rattle.sa_script.specs.Terms.{line_slices, line_misnamed, line_passes, line_unfit, call_in}
 use Rattle.sa_script.specs.Limits.{most_descrs, most_arrays, most_entries, most_tasks, most_calls, most_name_bytes}
 
 -- the number of a cause in the output
@@ -17,28 +18,38 @@ code_of cause.Syntax = 2
 code_of cause.Order = 3
 code_of cause.Name = 4
 code_of cause.Limit = 5
+code_of cause.View = 6
 code_of cause.Lengths = 8
 code_of cause.Cut = 11
+
+-- a line of the second version in a script of the first, or the version behind another statement
+abbrev pub misplaced : Context → Statement → Bool
+misplaced c statement.Version = c.begun
+misplaced c (statement.Descr name rule coerce) = false
+misplaced c (statement.Array name home len) = false
+misplaced c statement.Task = false
+misplaced c (statement.Call l) = (c.version == 1) && line_slices l
+misplaced c statement.End = false
 
 abbrev pub has_tasks : Context → Bool
 has_tasks c = nat_lt 0 (length c.tasks)
 
 -- a declaration after the first task, a call before it, or a statement after the end
 abbrev pub out_of_order : Context → Statement → Bool
+out_of_order c statement.Version = c.ended
 out_of_order c (statement.Descr name rule coerce) = c.ended || has_tasks c
 out_of_order c (statement.Array name home len) = c.ended || has_tasks c
 out_of_order c statement.Task = c.ended
-out_of_order c (statement.Set name items) = c.ended || not (has_tasks c)
-out_of_order c (statement.Show name) = c.ended || not (has_tasks c)
+out_of_order c (statement.Call l) = c.ended || not (has_tasks c)
 out_of_order c statement.End = c.ended
 
 -- a name that is declared already, or one that is used and not declared, or declared as the other sort
 abbrev pub misnamed : Context → Statement → Bool
+misnamed c statement.Version = false
 misnamed c (statement.Descr name rule coerce) = is_known c.names name
 misnamed c (statement.Array name home len) = is_known c.names name || is_none (descr_number c home)
 misnamed c statement.Task = false
-misnamed c (statement.Set name items) = is_none (array_number c name)
-misnamed c (statement.Show name) = is_none (array_number c name)
+misnamed c (statement.Call l) = line_misnamed c l
 misnamed c statement.End = false
 
 abbrev pub is_long : List ℕ → Bool
@@ -52,32 +63,38 @@ passes_entries before (Some (negsuc n)) = true
 
 -- a limit is passed by this statement, a length is below 0, or a number is no i64
 abbrev pub over_limit : Context → Statement → Bool
+over_limit c statement.Version = false
 over_limit c (statement.Descr name rule coerce) = (is_long name || is_none rule) || nat_le most_descrs (length c.descrs)
 over_limit c (statement.Array name home len) = (is_long name || nat_le most_arrays (length c.arrays)) || passes_entries (entries_of c.arrays (home_number c home)) len
 over_limit c statement.Task = nat_le most_tasks (length c.tasks)
-over_limit c (statement.Set name items) = is_none items || nat_le most_calls c.calls
-over_limit c (statement.Show name) = nat_le most_calls c.calls
+over_limit c (statement.Call l) = line_passes l || nat_le most_calls c.calls
 over_limit c statement.End = false
 
--- the number of items of a list, 0 where it passes a limit
-abbrev pub count_in : {A : Type 0} → Option (List A) → ℕ
-count_in None = 0
-count_in (Some items) = length items
+-- a view of the call is none of its array
+abbrev pub bad_view : Context → Statement → Bool
+bad_view c statement.Version = false
+bad_view c (statement.Descr name rule coerce) = false
+bad_view c (statement.Array name home len) = false
+bad_view c statement.Task = false
+bad_view c (statement.Call l) = line_unfit c l
+bad_view c statement.End = false
 
 -- the counts of operands and output have no broadcast, or the output's count is not the broadcast
 abbrev pub bad_lengths : Context → Statement → Bool
+bad_lengths c statement.Version = false
 bad_lengths c (statement.Descr name rule coerce) = false
 bad_lengths c (statement.Array name home len) = false
 bad_lengths c statement.Task = false
-bad_lengths c (statement.Set name items) = not (lengths_fit (count_in items ∷ []) (used_length c name))
-bad_lengths c (statement.Show name) = false
+bad_lengths c (statement.Call l) = not (lengths_fit (call_in c l))
 bad_lengths c statement.End = false
 
 -- the first fault of a statement, in the order of their numbers
 abbrev pub fault_of : Context → Statement → Option Cause
 fault_of c s =
-    if out_of_order c s then Some cause.Order
+    if misplaced c s then Some cause.Syntax
+    else (if out_of_order c s then Some cause.Order
     else (if misnamed c s then Some cause.Name
     else (if over_limit c s then Some cause.Limit
+    else (if bad_view c s then Some cause.View
     else (if bad_lengths c s then Some cause.Lengths
-    else None)))
+    else None)))))

@@ -21,3 +21,8 @@ is_name (b ∷ bs) = is_small_letter b && list_all is_name_byte bs
 
 abbrev pub name_of : List ℕ → Option (List ℕ)
 name_of token = if is_name token && not (is_reserved token) then Some token else None
+
+-- the names of the descriptors and of the arrays, each in order of declaration
+pub record Known : Type 0 where
+  pub descrs : List (List ℕ)
+  pub arrays : List (List ℕ)

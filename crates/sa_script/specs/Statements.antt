@@ -1,14 +1,24 @@
--- The statements of a script, each by the spelling of its tokens alone.
+-- The statements of a script, each by the spelling of its tokens alone. Calls are read by the table of calls.
 use Rattle.std.specs.Prelude.{ℕ, ℤ, Bool, true, false, List, [], ◌∷◌, Option, Some, None, option_map, if◌then◌else◌, codes}
 use Rattle.sa_lines.specs.Options.{◌>>=◌}
 use Rattle.sa_lines.specs.Numbers.{number_of}
 use Rattle.sa_lines.specs.Tokens.{is_word}
 use Rattle.sa_descr.specs.declared.descr.NaRule.{NaRule}
 use Rattle.sa_descr.specs.declared.descr.NaRule.TheVariants.{Absent, Nan, Other, Txt}
+use Rattle.sa_call.specs.declared.call.Op.{Op}
+use Rattle.sa_call.specs.declared.form.Sort.{Sort}
+use Rattle.sa_call.specs.declared.form.Sort.TheVariants as sort
+use Rattle.sa_call.specs.declared.form.Into.{Into}
+use Rattle.sa_call.specs.declared.form.Into.TheVariants as into
+use Rattle.sa_call.specs.Forms.{entry, op_of}
 use Rattle.sa_script.specs.Items.{text_token, list_of}
 use Rattle.sa_script.specs.Names.{name_of}
+use Rattle.sa_script.specs.Views.{view_of}
+use Rattle.sa_script.specs.declared.statement.ViewTerm.{ViewTerm}
+use Rattle.sa_script.specs.declared.statement.Term.{Term}
+use Rattle.sa_script.specs.declared.statement.Term.TheVariants as term
 use Rattle.sa_script.specs.declared.statement.Statement.{Statement}
-use Rattle.sa_script.specs.declared.statement.Statement.TheVariants.{Descr, Array, Task, Set, Show, End}
+use Rattle.sa_script.specs.declared.statement.Statement.TheVariants.{Version, Descr, Array, Task, Call, End}
 
 -- the text of a text rule, and the tokens after it
 abbrev pub text_rule_of : List (List ℕ) → Option (Option NaRule × List (List ℕ))
@@ -49,32 +59,66 @@ array_of [] = None
 array_of (n ∷ []) = None
 array_of (n ∷ d ∷ ts) = name_of n >>= λ name. name_of d >>= λ home. length_of ts >>= λ len. Some (Array name home len)
 
--- what follows set: a view, and a list
-abbrev pub set_of : List (List ℕ) → Option Statement
-set_of [] = None
-set_of (v ∷ []) = None
-set_of (v ∷ l ∷ []) = name_of v >>= λ name. list_of l >>= λ items. Some (Set name items)
-set_of (v ∷ l ∷ t ∷ ts) = None
-
--- what follows show: a view
-abbrev pub show_of : List (List ℕ) → Option Statement
-show_of [] = None
-show_of (v ∷ []) = name_of v >>= λ name. Some (Show name)
-show_of (v ∷ t ∷ ts) = None
+-- what follows version: the number 2, spelled so
+abbrev pub version_of : List (List ℕ) → Option Statement
+version_of [] = None
+version_of (t ∷ []) = if is_word (codes "2") t then Some Version else None
+version_of (t ∷ u ∷ ts) = None
 
 -- a statement of one word alone
 abbrev pub alone : Statement → List (List ℕ) → Option Statement
 alone s [] = Some s
 alone s (t ∷ ts) = None
 
+-- a token as an operand of this sort
+abbrev pub term_of : Sort → List ℕ → Option Term
+term_of sort.View t = option_map (λ v. term.View v) (view_of t)
+term_of sort.Literal t = option_map (λ items. term.List items) (list_of t)
+term_of sort.Descr t = option_map (λ name. term.Descr name) (name_of t)
+
+-- operands of these sorts, and the tokens after them
+abbrev pub terms_of : List Sort → List (List ℕ) → Option (List Term × List (List ℕ))
+terms_of [] ts = Some ([], ts)
+terms_of (s ∷ ss) [] = None
+terms_of (s ∷ ss) (t ∷ ts) = term_of s t >>= λ term. terms_of ss ts >>= λ r. Some (term ∷ r.0, r.1)
+
+-- an output in front of the operands, and the tokens after it
+abbrev pub front_of : Into → List (List ℕ) → Option (Option ViewTerm × List (List ℕ))
+front_of into.Never ts = Some (None, ts)
+front_of into.Must ts = Some (None, ts)
+front_of into.First [] = None
+front_of into.First (t ∷ ts) = view_of t >>= λ v. Some (Some v, ts)
+
+-- the word into and an output, and nothing behind it
+abbrev pub into_of : List (List ℕ) → Option (Option ViewTerm)
+into_of [] = None
+into_of (w ∷ []) = None
+into_of (w ∷ v ∷ []) = if is_word (codes "into") w then option_map (λ out. Some out) (view_of v) else None
+into_of (w ∷ v ∷ t ∷ ts) = None
+
+abbrev pub nothing_behind : {A : Type 0} → A → List (List ℕ) → Option A
+nothing_behind x [] = Some x
+nothing_behind x (t ∷ ts) = None
+
+-- an output behind the operands, where it stands there, and nothing else
+abbrev pub behind_of : Into → Option ViewTerm → List (List ℕ) → Option (Option ViewTerm)
+behind_of into.Never front ts = nothing_behind front ts
+behind_of into.First front ts = nothing_behind front ts
+behind_of into.Must front ts = into_of ts
+
+-- what follows a call's word, by its entry in the table
+abbrev pub call_of : Op → List (List ℕ) → Option Statement
+call_of op ts =
+    front_of (entry op).into ts >>= λ f. terms_of (entry op).needs f.1 >>= λ r.
+    behind_of (entry op).into f.0 r.1 >>= λ out. Some (Call (record { op = op; operands = r.0; out = out }))
+
 -- the statement that the tokens of a line spell
 abbrev pub statement_of : List (List ℕ) → Option Statement
 statement_of [] = None
 statement_of (w ∷ ts) =
-    if is_word (codes "descr") w then descr_of ts
+    if is_word (codes "version") w then version_of ts
+    else (if is_word (codes "descr") w then descr_of ts
     else (if is_word (codes "array") w then array_of ts
     else (if is_word (codes "task") w then alone Task ts
-    else (if is_word (codes "set") w then set_of ts
-    else (if is_word (codes "show") w then show_of ts
     else (if is_word (codes "end") w then alone End ts
-    else None)))))
+    else (op_of w >>= λ op. call_of op ts)))))

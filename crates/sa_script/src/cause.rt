@@ -16,6 +16,9 @@ pub enum Cause {
     Name,
     /// A limit is passed by this line, a length is below 0, or a number is no i64.
     Limit,
+    /// A view is none of its array: start or count is no u32, the step is no i32, that of a slice is 0, or
+    /// it does not fit.
+    View,
     /// The counts of operands and output do not fit.
     Lengths,
     /// There is no end.
@@ -33,6 +36,7 @@ impl Cause {
             Cause::Order => 3,
             Cause::Name => 4,
             Cause::Limit => 5,
+            Cause::View => 6,
             Cause::Lengths => 8,
             Cause::Cut => 11,
         }

@@ -1,15 +1,22 @@
-ghost use Rattle.std.specs.Prelude.{◌≡◌, ◌+◌, ◌<◌, length, Option, Some, None, option_map, is_none, pos, ◌∷◌, [], ◌||◌, nat_le};
-ghost use Rattle.sa_script.specs.Calls.{lengths_fit};
-ghost use Rattle.sa_script.specs.Contexts.{used_array, used_length, home_number, array_number};
-ghost use Rattle.sa_script.specs.Decls.{entries_of, array_at, length_at};
-ghost use Rattle.sa_script.specs.Faults.{out_of_order, misnamed, over_limit, bad_lengths, fault_of, has_tasks, is_long, passes_entries, count_in};
+ghost use Rattle.std.specs.Prelude.{◌≡◌, ◌||◌, nat_le, false, length, Some, None, is_none, pos, IfOk, map, true};
+ghost use Rattle.std.specs.List.{AllByRecursion};
+ghost use Rattle.sa_call.specs.Calls.{lengths_fit, operand_count};
+ghost use Rattle.sa_call.specs.Decls.{entries_of};
+ghost use Rattle.sa_call.specs.Valid.{IsLiteralOperand};
+ghost use Rattle.sa_script.specs.Contexts.{home_number, is_known, descr_number};
+ghost use Rattle.sa_script.specs.Faults.{fault_of, has_tasks, is_long, passes_entries};
+ghost use Rattle.sa_script.specs.Resolving.{call_fault};
+ghost use Rattle.sa_script.specs.declared.statement.Statement.{Statement};
 
 use crate::cause::Cause;
 use crate::context::Context;
-use crate::decls::ArrayDecl;
 use crate::name::Name;
-use crate::statement::Statement;
-use sa_plain::ValueList;
+use crate::resolving::Resolved;
+use sa_base::Memory;
+use sa_call::{ArrayDecl, Call, Operand};
+use sa_descr::NaRule;
+use sa_view::broadcast;
+use std::alloc::Global;
 
 /// The most descriptors of a script.
 const MOST_DESCRS: usize = 8;
@@ -30,20 +37,92 @@ const MOST_CALLS: u32 = 1024;
 const MOST_NAME_BYTES: usize = 32;
 
 impl Context {
-    /// The first fault of a statement in its place, if any.
-    pub fn fault_of(&self, statement: &Statement<'_>) -> Option<Cause>
-        ensures { result ≡ fault_of self.now statement.now }
+    /// The first fault of `version 2` in its place, if any. Here and below it is the one with the least
+    /// number.
+    pub fn version_fault(&self) -> Option<Cause>
+        ensures { result ≡ fault_of self.now Statement.Version }
     {
-        if self.is_out_of_order(statement) {
+        if self.begun {
+            Some(Cause::Syntax)
+        } else {
+            self.end_fault()
+        }
+    }
+
+    /// The first fault of a descriptor. Whether it coerces does not matter.
+    pub fn descr_fault(&self, name: &Name<'_>, rule: &Option<NaRule>) -> Option<Cause>
+        ensures { result ≡ fault_of self.now (Statement.Descr name.now rule.now true) }
+    {
+        if self.ended || self.has_tasks() {
             Some(Cause::Order)
-        } else if self.is_misnamed(statement) {
+        } else if self.names.is_known(name) {
             Some(Cause::Name)
-        } else if self.is_over_limit(statement) {
+        } else if is_long(name) || rule.is_none() || self.descrs.len() >= MOST_DESCRS {
             Some(Cause::Limit)
-        } else if self.has_bad_lengths(statement) {
-            Some(Cause::Lengths)
         } else {
             None
+        }
+    }
+
+    /// The first fault of an array.
+    pub fn array_fault(&self, name: &Name<'_>, home: &Name<'_>, len: Option<i64>) -> Option<Cause>
+        ensures { result ≡ fault_of self.now (Statement.Array name.now home.now len) }
+    {
+        if self.ended || self.has_tasks() {
+            Some(Cause::Order)
+        } else if self.is_array_misnamed(name, home) {
+            Some(Cause::Name)
+        } else if self.array_passes(name, home, len) {
+            Some(Cause::Limit)
+        } else {
+            None
+        }
+    }
+
+    /// The first fault of the next task's begin.
+    pub fn task_fault(&self) -> Option<Cause>
+        ensures { result ≡ fault_of self.now Statement.Task }
+    {
+        if self.ended {
+            Some(Cause::Order)
+        } else if self.tasks.len() >= MOST_TASKS {
+            Some(Cause::Limit)
+        } else {
+            None
+        }
+    }
+
+    /// The first fault of the end.
+    pub fn end_fault(&self) -> Option<Cause>
+        ensures { result ≡ fault_of self.now Statement.End }
+    {
+        if self.ended { Some(Cause::Order) } else { None }
+    }
+
+    /// The first fault of a call of which this is told; `slices` says that it has a slice.
+    pub fn call_fault(
+        &self,
+        alloc: Global,
+        slices: bool,
+        call: &Resolved,
+    ) -> Result<Option<Cause>, Memory>
+        requires { call.now.passes ≡ false → call.now.unfit ≡ false → AllByRecursion IsLiteralOperand call.now.call.operands }
+        ensures { IfOk result (λ fault. fault ≡ call_fault self.now slices call.now) }
+    {
+        if self.version == 1 && slices {
+            Ok(Some(Cause::Syntax))
+        } else if self.ended || !self.has_tasks() {
+            Ok(Some(Cause::Order))
+        } else if call.misnamed {
+            Ok(Some(Cause::Name))
+        } else if call.passes || self.calls >= MOST_CALLS {
+            Ok(Some(Cause::Limit))
+        } else if call.unfit {
+            Ok(Some(Cause::View))
+        } else if !lengths_fit(alloc, &call.call)? {
+            Ok(Some(Cause::Lengths))
+        } else {
+            Ok(None)
         }
     }
 
@@ -53,48 +132,11 @@ impl Context {
         self.tasks.len() > 0
     }
 
-    /// Whether a declaration follows the first task, a call comes before it, or a statement follows
-    /// the end.
-    fn is_out_of_order(&self, statement: &Statement<'_>) -> bool
-        ensures { result ≡ out_of_order self.now statement.now }
+    /// Whether an array's name is declared already, or its home is no declared descriptor.
+    fn is_array_misnamed(&self, name: &Name<'_>, home: &Name<'_>) -> bool
+        ensures { result ≡ (is_known self.now.names name.now || is_none (descr_number self.now home.now)) }
     {
-        match statement {
-            Statement::Descr(_, _, _) | Statement::Array(_, _, _) => self.ended || self.has_tasks(),
-            Statement::Task | Statement::End => self.ended,
-            Statement::Set(_, _) | Statement::Show(_) => self.ended || !self.has_tasks(),
-        }
-    }
-
-    /// Whether a name is declared already, or used and not declared, or declared as the other sort.
-    fn is_misnamed(&self, statement: &Statement<'_>) -> bool
-        ensures { result ≡ misnamed self.now statement.now }
-    {
-        match statement {
-            Statement::Descr(name, _, _) => self.names.is_known(name),
-            Statement::Array(name, home, _) => {
-                self.names.is_known(name) || self.names.descr_number(home).is_none()
-            }
-            Statement::Task | Statement::End => false,
-            Statement::Set(name, _) | Statement::Show(name) => {
-                self.names.array_number(name).is_none()
-            }
-        }
-    }
-
-    /// Whether a limit is passed by this statement, a length is below 0, or a number is no i64.
-    fn is_over_limit(&self, statement: &Statement<'_>) -> bool
-        ensures { result ≡ over_limit self.now statement.now }
-    {
-        match statement {
-            Statement::Descr(name, rule, _) => {
-                is_long(name) || rule.is_none() || self.descrs.len() >= MOST_DESCRS
-            }
-            Statement::Array(name, home, len) => { self.array_passes(name, home, *len) }
-            Statement::Task => self.tasks.len() >= MOST_TASKS,
-            Statement::Set(_, items) => items.is_none() || self.calls >= MOST_CALLS,
-            Statement::Show(_) => self.calls >= MOST_CALLS,
-            Statement::End => false,
-        }
+        self.names.is_known(name) || self.names.descr_number(home).is_none()
     }
 
     /// Whether an array's name is too long, there are as many arrays as may be, or its length passes
@@ -118,39 +160,6 @@ impl Context {
         };
         let home = self.names.descr_number(home).unwrap_or(0);
         passes(self.arrays.as_slice(), home, len)
-    }
-
-    /// Whether the counts of operands and output have no broadcast, or the output's count is not the
-    /// broadcast.
-    fn has_bad_lengths(&self, statement: &Statement<'_>) -> bool
-        ensures { result ≡ bad_lengths self.now statement.now }
-    {
-        match statement {
-            Statement::Set(name, items) => {
-                !is_stretched(count_in(items), self.len_of(self.number_of(name)))
-            }
-            _ => false,
-        }
-    }
-
-    /// The number of a used array, 0 where there is none of this name.
-    pub fn number_of(&self, name: &Name<'_>) -> usize
-        ensures { result ≡ used_array self.now name.now }
-    {
-        self.names.array_number(name).unwrap_or(0)
-    }
-
-    /// The length of an array by its number, 0 where there is none.
-    #[tactic(auto, using(crate::proofs::DeclLemmas::length_at_past))]
-    pub fn len_of(&self, number: usize) -> u32
-        ensures { result ≡ length_at self.now.arrays number }
-    {
-        let arrays = self.arrays.as_slice();
-        if number < arrays.len() {
-            arrays[number].len
-        } else {
-            0
-        }
     }
 }
 
@@ -181,19 +190,38 @@ fn passes(arrays: &[ArrayDecl], home: usize, len: u64) -> bool
     false
 }
 
-/// The number of items of a list, 0 where it passes a limit.
-fn count_in(items: &Option<ValueList>) -> usize
-    ensures { result ≡ count_in items.now }
+/// Whether the counts of operands and output have a length, and it is the output's.
+fn lengths_fit(alloc: Global, call: &Call) -> Result<bool, Memory>
+    requires { AllByRecursion IsLiteralOperand call.now.operands }
+    ensures { IfOk result (λ fit. fit ≡ lengths_fit call.now) }
 {
-    match items {
-        Some(items) => items.len(),
-        None => 0,
-    }
+    let mut counts = operand_counts(alloc, call.operands.as_slice())?;
+    let Some(out) = &call.out else {
+        return Ok(broadcast(counts.as_slice()).is_some());
+    };
+    counts.push(out.count)?;
+    Ok(broadcast(counts.as_slice()) == Some(out.count))
 }
 
-/// Whether a list of this many items fits an output of this length: it has one item, or as many.
-fn is_stretched(count: usize, output: u32) -> bool
-    ensures { result ≡ lengths_fit (count ∷ []) output }
+/// How many items each operand has.
+fn operand_counts(alloc: Global, operands: &[Operand]) -> Result<Vec<u32>, Memory>
+    requires { AllByRecursion IsLiteralOperand operands.now }
+    ensures { IfOk result (λ counts. counts.items ≡ map operand_count operands.now) }
 {
-    count == 1 || count == output as usize
+    let mut counts = Vec::new(alloc);
+    for operand in operands {
+        counts.push(operand_count(operand))?;
+    }
+    Ok(counts)
+}
+
+/// How many items an operand has.
+fn operand_count(operand: &Operand) -> u32
+    requires { IsLiteralOperand operand.now }
+    ensures { result ≡ operand_count operand.now }
+{
+    match operand {
+        Operand::View(view) => view.count,
+        Operand::Literal(items) => items.len() as u32,
+    }
 }

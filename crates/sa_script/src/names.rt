@@ -16,7 +16,7 @@ pub struct Names {
 
 impl Model for Names {
     ghost use Rattle.std.specs.Prelude.{map, string_bytes};
-    ghost use Rattle.sa_script.specs.Decls.{Known};
+    ghost use Rattle.sa_script.specs.Names.{Known};
 
     ghost Value = { Known };
 

@@ -1,28 +1,27 @@
-ghost use Rattle.std.specs.Prelude.{◌≡◌, ◌<◌, ◌∷◌, [], IfOk, OnOk, Option, Some, None, false, unwrap_or};
+ghost use Rattle.std.specs.Prelude.{◌≡◌, ◌<◌, ◌∷◌, ◌++◌, [], IfOk, OnOk, Option, Some, None, false};
 ghost use Rattle.std.specs.Str.{is_utf8};
-ghost use Rattle.sa_script.specs.Contexts.{context_after, nothing, with_descr, with_array, with_task, with_last, used_array, used_length, home_number, length_allowed};
-ghost use Rattle.sa_script.specs.Calls.{with_call, set_call, show_call, whole};
-ghost use Rattle.sa_script.specs.Faults.{fault_of, code_of, passes_entries};
-ghost use Rattle.sa_script.specs.Scripts.{GivesScript, meaning, unless_fault, line_after, script_value};
+ghost use Rattle.sa_script.specs.Contexts.{nothing, with_descr, with_array, with_last, with_call, home_number, length_allowed};
+ghost use Rattle.sa_script.specs.Faults.{code_of, passes_entries};
+ghost use Rattle.sa_script.specs.Scripts.{GivesScript, meaning, unless_fault, line_after, statement_after, script_value};
 ghost use Rattle.sa_script.specs.SoundContexts.{IsSoundContext};
+ghost use Rattle.sa_script.specs.Spelled.{IsSpelled, IsLine};
 
-use crate::call::{Call, CallList, Op, Operand, OperandList, TaskList, View};
 use crate::cause::Cause;
 use crate::context::Context;
-use crate::decls::{ArrayDecl, Decls, Kind};
 use crate::fault::ScriptFault;
 use crate::name::Name;
 use crate::names::Names;
 use crate::reading::statement_of;
+use crate::resolving::has_slices;
 use crate::script::Script;
-use crate::statement::Statement;
+use crate::statement::{Line, Statement};
 use sa_base::{Memory, Sequence};
+use sa_call::{ArrayDecl, Call, CallList, Decls, Kind, TaskList};
 use sa_descr::{Descr, NaRule};
 use sa_lines::{cut_line, is_skipped};
-use sa_plain::{Items, ValueList};
 use std::alloc::Global;
 
-/// The script that the bytes are: its declarations, names and calls. Otherwise the least faulty line,
+/// The script that the bytes are: its version, declarations, names and calls. Otherwise the least faulty line,
 /// counted from 1, and the first fault of that line; a script without its end is cut at its last line.
 pub fn parse(alloc: Global, bytes: &[u8]) -> Result<Script, ScriptFault>
     ensures { GivesScript result (meaning bytes.now) }
@@ -63,6 +62,8 @@ impl Context {
         ensures { result ≡ nothing }
     {
         Context {
+            version: 1,
+            begun: false,
             descrs: Sequence::new(alloc),
             arrays: Sequence::new(alloc),
             names: Names::new(alloc),
@@ -89,44 +90,116 @@ impl Context {
         if is_skipped(line) {
             return Ok(None);
         }
-        let Some(statement) = statement_of(alloc, scratch, line)? else {
-            return Ok(Some(Cause::Syntax));
-        };
-        if let Some(fault) = self.fault_of(&statement) {
+        match statement_of(alloc, scratch, line)? {
+            Some(statement) => self.take(alloc, statement),
+            None => Ok(Some(Cause::Syntax)),
+        }
+    }
+
+    /// Takes a statement, and answers its first fault, if any.
+    fn take(&mut self, alloc: Global, statement: Statement<'_>) -> Result<Option<Cause>, Memory>
+        requires sound { IsSoundContext self.old }
+        requires spelled { IsSpelled statement }
+        ensures { IfOk result (λ fault. statement_after self.old (Some statement.entry) ≡ unless_fault self.new fault) }
+    {
+        match statement {
+            Statement::Version => Ok(self.take_version()),
+            Statement::Descr(name, rule, coerce) => self.take_descr(alloc, &name, rule, coerce),
+            Statement::Array(name, home, len) => self.take_array(alloc, &name, &home, len),
+            Statement::Task => self.take_task(alloc),
+            Statement::Call(line) => self.take_call(alloc, line),
+            Statement::End => Ok(self.take_end()),
+        }
+    }
+
+    /// Takes `version 2`, if it has no fault.
+    fn take_version(&mut self) -> Option<Cause>
+        ensures { statement_after self.old (Some Statement.Version) ≡ unless_fault self.new result }
+    {
+        let fault = self.version_fault();
+        if fault.is_none() {
+            self.version = 2;
+            self.begun = true;
+        }
+        fault
+    }
+
+    /// Declares a descriptor, if it has no fault.
+    fn take_descr(
+        &mut self,
+        alloc: Global,
+        name: &Name<'_>,
+        rule: Option<NaRule>,
+        coerce: bool,
+    ) -> Result<Option<Cause>, Memory>
+        ensures { IfOk result (λ fault. statement_after self.old (Some (Statement.Descr name.now rule coerce)) ≡ unless_fault self.new fault) }
+    {
+        if let Some(fault) = self.descr_fault(name, &rule) {
             return Ok(Some(fault));
         }
-        self.take(alloc, statement)?;
+        self.add_descr(alloc, name, rule.unwrap_or(NaRule::Absent), coerce)?;
+        self.begun = true;
         Ok(None)
     }
 
-    /// Takes a statement without a fault.
-    fn take(&mut self, alloc: Global, statement: Statement<'_>) -> Result<(), Memory>
-        requires sound { IsSoundContext self.old }
-        requires faultless { fault_of self.old statement ≡ None }
-        ensures { OnOk result (self.new ≡ context_after self.old statement.entry) }
+    /// Declares an array, if it has no fault.
+    fn take_array(
+        &mut self,
+        alloc: Global,
+        name: &Name<'_>,
+        home: &Name<'_>,
+        len: Option<i64>,
+    ) -> Result<Option<Cause>, Memory>
+        requires { IsSoundContext self.old }
+        ensures { IfOk result (λ fault. statement_after self.old (Some (Statement.Array name.now home.now len)) ≡ unless_fault self.new fault) }
     {
-        match statement {
-            Statement::Descr(name, rule, coerce) => {
-                self.add_descr(alloc, &name, rule.unwrap_or(NaRule::Absent), coerce)
-            }
-            Statement::Array(name, home, len) => {
-                let home = self.home_of(&home);
-                self.add_array(alloc, &name, home, length_allowed(len))
-            }
-            Statement::Task => self.add_task(alloc),
-            Statement::Set(name, items) => {
-                let call = set_call(alloc, self.whole(&name), items)?;
-                self.add_call(call)
-            }
-            Statement::Show(name) => {
-                let call = show_call(alloc, self.whole(&name))?;
-                self.add_call(call)
-            }
-            Statement::End => {
-                self.ended = true;
-                Ok(())
-            }
+        if let Some(fault) = self.array_fault(name, home, len) {
+            return Ok(Some(fault));
         }
+        let home = self.home_of(home);
+        self.add_array(alloc, name, home, length_allowed(len))?;
+        self.begun = true;
+        Ok(None)
+    }
+
+    /// Begins the next task, if that has no fault.
+    fn take_task(&mut self, alloc: Global) -> Result<Option<Cause>, Memory>
+        ensures { IfOk result (λ fault. statement_after self.old (Some Statement.Task) ≡ unless_fault self.new fault) }
+    {
+        if let Some(fault) = self.task_fault() {
+            return Ok(Some(fault));
+        }
+        self.tasks.push(CallList::new(alloc))?;
+        self.begun = true;
+        Ok(None)
+    }
+
+    /// One more call of the last task, if it has no fault.
+    fn take_call(&mut self, alloc: Global, line: Line<'_>) -> Result<Option<Cause>, Memory>
+        requires sound { IsSoundContext self.old }
+        requires spelled { IsLine line }
+        ensures { IfOk result (λ fault. statement_after self.old (Some (Statement.Call line.entry)) ≡ unless_fault self.new fault) }
+    {
+        let slices = has_slices(&line);
+        let resolved = self.resolved(alloc, line)?;
+        if let Some(fault) = self.call_fault(alloc, slices, &resolved)? {
+            return Ok(Some(fault));
+        }
+        self.add_call(resolved.call)?;
+        self.begun = true;
+        Ok(None)
+    }
+
+    /// Ends the script, if that has no fault.
+    fn take_end(&mut self) -> Option<Cause>
+        ensures { statement_after self.old (Some Statement.End) ≡ unless_fault self.new result }
+    {
+        let fault = self.end_fault();
+        if fault.is_none() {
+            self.ended = true;
+            self.begun = true;
+        }
+        fault
     }
 
     /// Declares a descriptor.
@@ -164,14 +237,6 @@ impl Context {
         Ok(())
     }
 
-    /// Begins the next task.
-    fn add_task(&mut self, alloc: Global) -> Result<(), Memory>
-        ensures { OnOk result (self.new ≡ with_task self.old) }
-    {
-        self.tasks.push(CallList::new(alloc))?;
-        Ok(())
-    }
-
     /// One more call of the last task.
     fn add_call(&mut self, call: Call) -> Result<(), Memory>
         requires { self.old.calls < 1024 }
@@ -189,27 +254,13 @@ impl Context {
         self.names.descr_number(home).unwrap_or(0) as u8
     }
 
-    /// The view of a whole array.
-    fn whole(&self, name: &Name<'_>) -> View
-        requires { IsSoundContext self.now }
-        ensures { result ≡ whole (used_array self.now name.now) (used_length self.now name.now) }
-    {
-        let array = self.number_of(name);
-        View {
-            array: array as u32,
-            start: 0,
-            count: self.len_of(array),
-            step: 1,
-        }
-    }
-
     /// The script, of lines that have ended.
     fn finish(self) -> Script
         requires { IsSoundContext self }
         ensures { result ≡ script_value self }
     {
         let decls = Decls::new(self.descrs.into_vec(), self.arrays.into_vec());
-        Script::new(decls, self.names, self.tasks)
+        Script::new(self.version, decls, self.names, self.tasks)
     }
 }
 
@@ -242,34 +293,4 @@ fn length_allowed(len: Option<i64>) -> u32
         Some(len) => len as u32,
         None => 0,
     }
-}
-
-/// The call that puts values into an array.
-fn set_call(alloc: Global, out: View, items: Option<ValueList>) -> Result<Call, Memory>
-    ensures { IfOk result (λ call. call ≡ record { op = Op.Set; operands = Operand.Literal (Items.Values (unwrap_or items [])) ∷ []; out = Some out }) }
-{
-    let items = match items {
-        Some(items) => items,
-        None => ValueList::new(alloc),
-    };
-    let mut operands = OperandList::new(alloc);
-    operands.push(Operand::Literal(Items::Values(items)))?;
-    Ok(Call {
-        op: Op::Set,
-        operands,
-        out: Some(out),
-    })
-}
-
-/// The call that answers the items of a view.
-fn show_call(alloc: Global, view: View) -> Result<Call, Memory>
-    ensures { IfOk result (λ call. call ≡ record { op = Op.Show; operands = Operand.View view ∷ []; out = None }) }
-{
-    let mut operands = OperandList::new(alloc);
-    operands.push(Operand::View(view))?;
-    Ok(Call {
-        op: Op::Show,
-        operands,
-        out: None,
-    })
 }

@@ -1,11 +1,13 @@
 ghost use Rattle.std.specs.Prelude.{◌≡◌, Option, option_map, IfOk, Some, None, MatchOption};
 ghost use Rattle.sa_lines.specs.Tokens.{tokens_of};
-ghost use Rattle.sa_script.specs.Statements.{statement_of, descr_of, array_of, set_of, show_of, rule_of, text_rule_of, coerce_of, length_of, alone};
+ghost use Rattle.sa_script.specs.Statements.{statement_of, version_of, descr_of, array_of, call_of, rule_of, text_rule_of, coerce_of, length_of, alone, front_of, term_of, terms_of, into_of, behind_of};
 
 use crate::item::{list_of, text_token};
 use crate::name::name_of;
-use crate::statement::Statement;
-use sa_base::Memory;
+use crate::statement::{Line, Statement, Term, ViewTerm};
+use crate::view::view_of;
+use sa_base::{Memory, Sequence};
+use sa_call::{Into, Op, Sort};
 use sa_descr::NaRule;
 use sa_lines::{is_word, next_token, number_of};
 use std::alloc::Global;
@@ -21,6 +23,9 @@ pub fn statement_of<'a>(
     let Some((word, rest)) = next_token(line) else {
         return Ok(None);
     };
+    if is_word(b"version", word) {
+        return Ok(version_of(rest));
+    }
     if is_word(b"descr", word) {
         return descr_of(alloc, scratch, rest);
     }
@@ -30,16 +35,13 @@ pub fn statement_of<'a>(
     if is_word(b"task", word) {
         return Ok(alone(Statement::Task, rest));
     }
-    if is_word(b"set", word) {
-        return set_of(alloc, scratch, rest);
-    }
-    if is_word(b"show", word) {
-        return Ok(show_of(rest));
-    }
     if is_word(b"end", word) {
         return Ok(alone(Statement::End, rest));
     }
-    Ok(None)
+    match Op::from_word(word) {
+        Some(op) => call_of(alloc, scratch, op, rest),
+        None => Ok(None),
+    }
 }
 
 /// A statement of one word, where nothing follows it.
@@ -162,40 +164,128 @@ fn length_of(line: &[u8]) -> Option<Option<i64>>
     number_of(len)
 }
 
-/// What follows `set`: a view, and a list.
-fn set_of<'a>(
-    alloc: Global,
-    scratch: &mut Vec<u8>,
-    line: &'a [u8],
-) -> Result<Option<Statement<'a>>, Memory>
-    ensures { IfOk result (λ s. s ≡ set_of (tokens_of line.now)) }
+/// What follows `version`: the number 2, spelled so.
+fn version_of<'a>(line: &[u8]) -> Option<Statement<'a>>
+    ensures { result ≡ version_of (tokens_of line.now) }
 {
-    let Some((view, rest)) = next_token(line) else {
-        return Ok(None);
-    };
-    let Some((list, rest)) = next_token(rest) else {
-        return Ok(None);
-    };
-    if next_token(rest).is_some() {
-        return Ok(None);
-    }
-    let Some(name) = name_of(view) else {
-        return Ok(None);
-    };
-    let Some(items) = list_of(alloc, scratch, list)? else {
-        return Ok(None);
-    };
-    Ok(Some(Statement::Set(name, items)))
-}
-
-/// What follows `show`: a view.
-fn show_of(line: &[u8]) -> Option<Statement<'_>>
-    ensures { result ≡ show_of (tokens_of line.now) }
-{
-    let (view, rest) = next_token(line)?;
-    if next_token(rest).is_some() {
+    let (number, rest) = next_token(line)?;
+    if next_token(rest).is_some() || !is_word(b"2", number) {
         return None;
     }
-    let name = name_of(view)?;
-    Some(Statement::Show(name))
+    Some(Statement::Version)
+}
+
+/// What follows a call's word, by its entry in the table.
+fn call_of<'a>(
+    alloc: Global,
+    scratch: &mut Vec<u8>,
+    op: Op,
+    line: &'a [u8],
+) -> Result<Option<Statement<'a>>, Memory>
+    ensures { IfOk result (λ s. s ≡ call_of op (tokens_of line.now)) }
+{
+    let form = op.form();
+    let Some((front, rest)) = front_of(form.into, line) else {
+        return Ok(None);
+    };
+    let Some((operands, rest)) = terms_of(alloc, scratch, form.needs, rest)? else {
+        return Ok(None);
+    };
+    let Some(out) = behind_of(form.into, front, rest) else {
+        return Ok(None);
+    };
+    Ok(Some(Statement::Call(Line { op, operands, out })))
+}
+
+/// An output in front of the operands, and what follows it.
+fn front_of(into: Into, line: &[u8]) -> Option<(Option<ViewTerm<'_>>, &[u8])>
+    ensures { option_map (λ x. (x.0, tokens_of x.1.now)) result ≡ front_of into (tokens_of line.now) }
+{
+    match into {
+        Into::Never | Into::Must => Some((None, line)),
+        Into::First => {
+            let (token, rest) = next_token(line)?;
+            let out = view_of(token)?;
+            Some((Some(out), rest))
+        }
+    }
+}
+
+/// Operands of these sorts, and what follows them.
+fn terms_of<'a>(
+    alloc: Global,
+    scratch: &mut Vec<u8>,
+    needs: &[Sort],
+    line: &'a [u8],
+) -> Result<Option<(Sequence<Term<'a>>, &'a [u8])>, Memory>
+    ensures { IfOk result (λ r. option_map (λ x. (x.0, tokens_of x.1.now)) r ≡ terms_of needs.now (tokens_of line.now)) }
+{
+    let mut terms = Sequence::new(alloc);
+    let mut rest = line;
+    'sorts: for sort in needs {
+        let Some((token, others)) = next_token(rest) else {
+            return Ok(None);
+        };
+        let Some(term) = term_of(alloc, scratch, *sort, token)? else {
+            return Ok(None);
+        };
+        terms.push(term)?;
+        rest = others;
+    }
+    Ok(Some((terms, rest)))
+}
+
+/// A token as an operand of this sort.
+fn term_of<'a>(
+    alloc: Global,
+    scratch: &mut Vec<u8>,
+    sort: Sort,
+    token: &'a [u8],
+) -> Result<Option<Term<'a>>, Memory>
+    ensures { IfOk result (λ t. t ≡ term_of sort token.now) }
+{
+    match sort {
+        Sort::View => match view_of(token) {
+            Some(view) => Ok(Some(Term::View(view))),
+            None => Ok(None),
+        },
+        Sort::Literal => match list_of(alloc, scratch, token)? {
+            Some(items) => Ok(Some(Term::List(items))),
+            None => Ok(None),
+        },
+        Sort::Descr => match name_of(token) {
+            Some(name) => Ok(Some(Term::Descr(name))),
+            None => Ok(None),
+        },
+    }
+}
+
+/// An output behind the operands, where it stands there, and nothing else.
+fn behind_of<'a>(
+    into: Into,
+    front: Option<ViewTerm<'a>>,
+    line: &'a [u8],
+) -> Option<Option<ViewTerm<'a>>>
+    ensures { result ≡ behind_of into front.entry (tokens_of line.now) }
+{
+    match into {
+        Into::Never | Into::First => match next_token(line) {
+            None => Some(front),
+            Some(_) => None,
+        },
+        Into::Must => into_of(line),
+    }
+}
+
+/// The word `into` and an output, and nothing behind it.
+fn into_of(line: &[u8]) -> Option<Option<ViewTerm<'_>>>
+    ensures { result ≡ into_of (tokens_of line.now) }
+{
+    let (word, rest) = next_token(line)?;
+    let (token, rest) = next_token(rest)?;
+    if next_token(rest).is_some() || !is_word(b"into", word) {
+        return None;
+    }
+    let out = view_of(token)?;
+    Some(Some(out))
 }

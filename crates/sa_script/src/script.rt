@@ -1,15 +1,15 @@
 ghost use Rattle.std.specs.Prelude.{◌≡◌};
-ghost use Rattle.sa_script.specs.Sound.{IsSound};
+ghost use Rattle.sa_script.specs.Sound.{IsSound, IsVersion};
 
-use crate::call::TaskList;
-use crate::decls::Decls;
 use crate::names::Names;
+use sa_call::{Decls, TaskList};
 use std::marker::Model;
 
 /// A script: what it declares, the names, and its tasks' calls. The limits hold, names and texts are
 /// such, and each call is valid under the declarations.
 #[derive(Drop)]
 pub struct Script {
+    version: u8,
     decls: Decls,
     names: Names,
     tasks: TaskList,
@@ -17,26 +17,36 @@ pub struct Script {
 
 impl Model for Script {
     ghost use Rattle.sa_script.specs.Scripts.{ScriptValue};
-    ghost use Rattle.sa_script.specs.Sound.{IsSound};
+    ghost use Rattle.sa_script.specs.Sound.{IsSound, IsVersion};
 
     ghost Value = { ScriptValue };
 
-    ghost view = { λ s. record { decls = s.decls; names = s.names; tasks = s.tasks } };
+    ghost view = { λ s. record { version = s.version; decls = s.decls; names = s.names; tasks = s.tasks } };
 
-    ghost invariant = { λ s. IsSound s.decls s.names s.tasks };
+    ghost invariant = { λ s. IsVersion s.version × IsSound s.decls s.names s.tasks };
 }
 
 impl Script {
-    /// The script of these declarations, names and calls. It takes no memory.
-    pub(crate) fn new(decls: Decls, names: Names, tasks: TaskList) -> Script
-        requires { IsSound decls names tasks }
-        ensures { result ≡ record { decls = decls; names = names; tasks = tasks } }
+    /// The script of this version, these declarations, names and calls. It takes no memory.
+    pub(crate) fn new(version: u8, decls: Decls, names: Names, tasks: TaskList) -> Script
+        requires version { IsVersion version }
+        requires sound { IsSound decls names tasks }
+        ensures { result ≡ record { version = version; decls = decls; names = names; tasks = tasks } }
     {
         Script {
+            version,
             decls,
             names,
             tasks,
         }
+    }
+
+    /// The version of the language: 1 or 2.
+    pub fn version(&self) -> u8
+        ensures version { result ≡ self.now.version }
+        ensures versions { IsVersion self.now.version }
+    {
+        self.version
     }
 
     /// The descriptors and arrays.

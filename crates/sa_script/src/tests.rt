@@ -1,229 +1,402 @@
 mod limits;
 mod meaning;
 
-use crate::{ScriptFault, parse};
+use crate::view::cut_at;
+use crate::{Script, ScriptFault, parse};
+use sa_base::Memory;
+use sa_call::{CallList, Operand};
+use sa_lines::{number_of, push_decimal};
 use std::alloc::Global;
+use std::process::Abort;
 use std::test::Fail;
 
-/// The number and the line of a script's fault; 0 and 0 of a script without one.
-fn fault_of(alloc: Global, bytes: &[u8]) -> Result<(u8, u64), ScriptFault> {
+/// Writes a text in which `|` stands for a line feed, `^` for a carriage return, `!` for a byte that is no
+/// UTF-8, and `@` for this number.
+fn push_plain(out: &mut Vec<u8>, text: &[u8], number: u64) -> Result<(), Memory> {
+    for byte in text {
+        match *byte {
+            b'|' => out.push(b'\n')?,
+            b'^' => out.push(b'\r')?,
+            b'!' => out.push(0xff)?,
+            b'@' => push_decimal(out, number)?,
+            other => out.push(other)?,
+        }
+    }
+    Ok(())
+}
+
+/// Writes a text as often as the number in front of its `*` says, with 0, 1 and so on for each `@`.
+fn push_many(out: &mut Vec<u8>, piece: &[u8]) -> Result<(), Memory> {
+    let (count, piece) = cut_at(b'*', piece);
+    let count = match number_of(count) {
+        Some(Some(count)) => count.unsigned_abs(),
+        _ => 0,
+    };
+    for number in 0..count {
+        push_plain(out, piece.unwrap_or(b""), number)?;
+    }
+    Ok(())
+}
+
+/// Writes a text in which pieces such as `<3*na,>` stand for what `push_many` makes of them.
+fn push_text(out: &mut Vec<u8>, text: &str) -> Result<(), Memory> {
+    let mut rest = text.as_bytes();
+    for _ in 0..text.len() {
+        let (plain, behind) = cut_at(b'<', rest);
+        push_plain(out, plain, 0)?;
+        let (piece, others) = cut_at(b'>', behind.unwrap_or(b""));
+        push_many(out, piece)?;
+        rest = others.unwrap_or(b"");
+    }
+    Ok(())
+}
+
+/// The last call's first operand, where that is a view; of another script nothing.
+fn last_view(tasks: &[CallList]) -> Option<&Operand> {
+    tasks.last()?.as_slice().last()?.operands.get(0)
+}
+
+/// What a script is: the view that its last call reads, or else `ok`.
+fn told(alloc: Global, script: &Script) -> Result<String, Memory> {
+    match last_view(script.tasks().as_slice()) {
+        Some(Operand::View(view)) => Ok(format!(in alloc;
+            "{},{},{}",
+            view.start, view.count, view.step
+        )?),
+        _ => Ok(String::from_str(alloc, "ok")?),
+    }
+}
+
+/// What bytes are: what their script is, or the number of their fault and its line.
+fn answer(alloc: Global, bytes: &[u8]) -> Result<String, Memory> {
     match parse(alloc, bytes) {
-        Ok(_) => Ok((0, 0)),
-        Err(ScriptFault::Fault { code, line }) => Ok((code, line)),
-        Err(ScriptFault::Memory) => Err(ScriptFault::Memory),
+        Ok(script) => told(alloc, &script),
+        Err(ScriptFault::Fault { code, line }) => Ok(format!(in alloc; "{code}:{line}")?),
+        Err(ScriptFault::Memory) => Err(Memory),
     }
 }
 
-/// The number of the fault of a line behind others and before the end; 0 where it has none, and 99
-/// where the fault is another line's.
-fn fault_behind(alloc: Global, before: &str, number: u64, line: &str) -> Result<u8, Fail> {
-    let bytes = format!(in alloc; "{before}{line}\nend\n")?;
-    match fault_of(alloc, bytes.as_bytes())? {
-        (0, _) => Ok(0),
-        (code, at) => Ok(if at == number { code } else { 99 }),
+/// Tries each row of a table: what bytes are, a space, and the text of these bytes between two others.
+fn try_rows(
+    rt: &impl Abort,
+    alloc: Global,
+    before: &str,
+    rows: &str,
+    behind: &str,
+) -> Result<(), Fail> {
+    let mut rest = rows;
+    for _ in 0..rows.len() {
+        let Some((row, others)) = rest.split_once('\n') else {
+            break;
+        };
+        rest = others;
+        let (want, text) = row.split_once(' ').unwrap_or(("", row));
+        let mut bytes = Vec::new(alloc);
+        push_text(&mut bytes, before)?;
+        push_text(&mut bytes, text)?;
+        push_text(&mut bytes, behind)?;
+        assert_eq!(rt; answer(alloc, bytes.as_slice())?.as_str(), want, "of {row}");
     }
+    Ok(())
 }
 
-/// Scripts, each with its fault and the line of that; 0 and 0 where it has none.
-const LINES: &[(&[u8], (u8, u64))] = &[
-    (b"", (11, 0)),
-    (b"\n", (11, 1)),
-    (b"descr d absent coerce\n", (11, 1)),
-    (b"descr d absent coerce", (11, 1)),
-    (b"\r\n# only\n \t", (11, 3)),
-    (b"task\n\n# x\n", (11, 3)),
-    (b"task\nfoo", (2, 2)),
-    (b"end\n", (0, 0)),
-    (b"end", (0, 0)),
-    (b"\r\n\n\tend \t\r\n", (0, 0)),
-    (b"#\r\nend\n", (0, 0)),
-    (b"end\n\n \t \n# done\n\t # more", (0, 0)),
-    (b"end\r", (2, 1)),
-    (b"end\n\r", (2, 2)),
-    (b"end\r\r\n", (2, 1)),
-    (b"task\rend\n", (2, 1)),
-    (b"end\nfoo\n", (2, 2)),
-    (b"end # done\n", (2, 1)),
-    (b"end\n\nend\n", (3, 3)),
-    (b"end\ntask", (3, 2)),
-    (b"end\ndescr d nan\n", (3, 2)),
-    (b"end\narray a d str -1\n", (3, 2)),
-    (b"end\nset x na\n", (3, 2)),
-    (b"end\nshow x\n", (3, 2)),
-    (b"\n\n# c\nend\n# x\nfoo\n", (2, 6)),
-    (b"foo\nshow x\n", (2, 1)),
-    (b"show x\nfoo\n", (3, 1)),
-    (b"\xff", (1, 1)),
-    (b"# \xff\nend\n", (1, 1)),
-    (b"end\n \xc3", (1, 2)),
-    (b"# fine\nfoo \xed\xa0\x80", (1, 2)),
-    (b"foo\n\xff\n", (2, 1)),
-    (b"\xef\xbb\xbfend\n", (2, 1)),
-    (b"\xc2\xa0end\n", (2, 1)),
-    (b"\x0cend\n", (2, 1)),
-    (b"end\0\n", (2, 1)),
-];
+/// Whole scripts.
+const LINES: &str = "11:0 
+11:1 |
+11:1 descr d absent coerce|
+11:1 descr d absent coerce
+11:3 ^|# only| \t
+11:3 task||# x|
+2:2 task|foo
+ok end|
+ok end
+ok ^||\tend \t^|
+ok #^|end|
+ok end|| \t |# done|\t # more
+2:1 end^
+2:2 end|^
+2:1 end^^|
+2:1 task^end|
+2:2 end|foo|
+2:1 end # done|
+3:3 end||end|
+3:2 end|task
+3:2 end|descr d nan|
+3:2 end|array a d str -1|
+3:2 end|set x na|
+3:2 end|show x|
+2:6 ||# c|end|# x|foo|
+2:1 foo|show x|
+3:1 show x|foo|
+1:1 !
+1:1 # !|end|
+1:2 # fine|foo !
+2:1 foo|!|
+2:1 \u{feff}end|
+2:1 \u{a0}end|
+2:1 \u{c}end|
+ok # two|| \t|version 2|end|
+2:1 version 1|end|
+2:1 version 02|end|
+2:1 version|end|
+2:1 version 2 2|end|
+2:2 descr d nan|version 2|end|
+2:2 version 2|version 2|end|
+2:2 end|version 2|
+";
 
 #[test]
 fn lines_and_ends(rt: HostRuntime) -> Result<(), Fail> {
-    for (bytes, want) in LINES {
-        assert_eq!(rt; fault_of(rt.alloc(), bytes)?, *want, "of {bytes:?}");
-    }
-    Ok(())
+    try_rows(&rt, rt.alloc(), "", LINES, "")
 }
 
-/// Lines behind a descriptor `d` and an array `a`, each with its fault; 0 where it has none.
-const DECLARATIONS: &[(&str, u8)] = &[
-    ("descr f absent", 0),
-    ("descr f nan coerce", 0),
-    ("\tdescr  f\tother \t strict ", 0),
-    ("descr text text \"absent\"", 0),
-    ("descr set text \"\\u{e9} \\\"\\\\\" strict", 0),
-    ("descr z9_z nan", 0),
-    ("descr", 2),
-    ("descr f", 2),
-    ("descr f maybe", 2),
-    ("descr f nan maybe", 2),
-    ("descr f nan strict strict", 2),
-    ("descr f text", 2),
-    ("descr f text coerce", 2),
-    ("descr f text na", 2),
-    ("descr f text (\"x\")", 2),
-    ("descr f text \"x\"strict", 2),
-    ("descr f nan # why", 2),
-    ("descr na nan", 2),
-    ("descr true nan", 2),
-    ("descr false nan", 2),
-    ("descr into nan", 2),
-    ("descr 1f nan", 2),
-    ("descr _f nan", 2),
-    ("descr fF nan", 2),
-    ("descr é nan", 2),
-    ("Descr f nan", 2),
-    ("descr d nan", 4),
-    ("descr a absent strict", 4),
-    ("array b d str 0", 0),
-    ("array b d str -0", 0),
-    ("array b d str 007", 0),
-    ("array b d str 8190", 0),
-    ("array b d str", 2),
-    ("array b d 1", 2),
-    ("array b d str 1 1", 2),
-    ("array b d int 1", 2),
-    ("array b d bool 1", 2),
-    ("array b d bytes 1 1", 2),
-    ("array b d fixed 1 1", 2),
-    ("array b d str +1", 2),
-    ("array b d str 1x", 2),
-    ("array b d str --1", 2),
-    ("array b d str -", 2),
-    ("array b d str \"1\"", 2),
-    ("array b na str 1", 2),
-    ("array a d str 1", 4),
-    ("array d d str 1", 4),
-    ("array b a str 1", 4),
-    ("array b b str 1", 4),
-    ("array b x str -1", 4),
-    ("array a d str 9223372036854775808", 4),
-    ("array b d str -1", 5),
-    ("array b d str 8191", 5),
-    ("array b d str 9223372036854775807", 5),
-    ("array b d str 9223372036854775808", 5),
-    ("array b d str -9223372036854775808", 5),
-    ("array b d str -9223372036854775809", 5),
-    ("array b d str 18446744073709551616", 5),
-    ("show a", 3),
-    ("show x", 3),
-    ("set x na", 3),
-    ("set a (\"x\",\"y\",\"z\")", 3),
-    ("show a a", 2),
-];
+/// Lines behind a descriptor `d` and an array `a`.
+const DECLARATIONS: &str = "ok descr f absent
+ok descr f nan coerce
+ok \tdescr  f\tother \t strict 
+ok descr text text \"absent\"
+ok descr set text \"\\u{e9} \\\"\\\\\" strict
+ok descr z9_z nan
+2:3 descr
+2:3 descr f
+2:3 descr f maybe
+2:3 descr f nan maybe
+2:3 descr f nan strict strict
+2:3 descr f text
+2:3 descr f text coerce
+2:3 descr f text na
+2:3 descr f text (\"x\")
+2:3 descr f text \"x\"strict
+2:3 descr na nan
+2:3 descr true nan
+2:3 descr false nan
+2:3 descr into nan
+2:3 descr 1f nan
+2:3 descr _f nan
+2:3 descr fF nan
+2:3 descr é nan
+2:3 Descr f nan
+4:3 descr d nan
+4:3 descr a absent strict
+ok array b d str 0
+ok array b d str -0
+ok array b d str 007
+ok array b d str 8190
+2:3 array b d str
+2:3 array b d 1
+2:3 array b d str 1 1
+2:3 array b d int 1
+2:3 array b d str +1
+2:3 array b d str 1x
+2:3 array b d str -
+2:3 array b d str \"1\"
+2:3 array b na str 1
+2:3 array b[0,1,1] d str 1
+4:3 array a d str 1
+4:3 array d d str 1
+4:3 array b a str 1
+4:3 array b x str -1
+4:3 array a d str 9223372036854775808
+5:3 array b d str -1
+5:3 array b d str 8191
+5:3 array b d str 9223372036854775807
+5:3 array b d str 9223372036854775808
+5:3 array b d str -9223372036854775808
+5:3 array b d str -9223372036854775809
+3:3 show a
+3:3 show x
+3:3 set x na
+3:3 set a (\"x\",\"y\",\"z\")
+3:3 stats x
+2:3 show a a
+";
 
 #[test]
 fn declarations(rt: HostRuntime) -> Result<(), Fail> {
-    for (line, want) in DECLARATIONS {
-        let code = fault_behind(rt.alloc(), "descr d nan\narray a d str 2\n", 3, line)?;
-        assert_eq!(rt; code, *want, "of {line:?}");
-    }
-    Ok(())
+    try_rows(
+        &rt,
+        rt.alloc(),
+        "descr d nan|array a d str 2|",
+        DECLARATIONS,
+        "|end|",
+    )
 }
 
-/// Lines of a task, each with its fault; 0 where it has none.
-const CALLS: &[(&str, u8)] = &[
-    ("task", 0),
-    ("show a", 0),
-    ("\t show \t none\t", 0),
-    ("set a na", 0),
-    ("set a (na)", 0),
-    ("set a (\"x y\",\"#,)\")", 0),
-    ("set a (na,\"\\u{7f}\\u{10ffff}\")", 0),
-    ("set none \"x\"", 0),
-    ("set one (\"x\")", 0),
-    ("task 1", 2),
-    ("add a \"x\"", 2),
-    ("copy a into a", 2),
-    ("stats d", 2),
-    ("show", 2),
-    ("show na", 2),
-    ("show \"a\"", 2),
-    ("show a a", 2),
-    ("show a[0,1,1]", 2),
-    ("show a # why", 2),
-    ("set a", 2),
-    ("set a a", 2),
-    ("set a na na", 2),
-    ("set a na # why", 2),
-    ("set a[0,1,1] na", 2),
-    ("set na na", 2),
-    ("set a 5", 2),
-    ("set a (5,6)", 2),
-    ("set a true", 2),
-    ("set a hex:00", 2),
-    ("set a units:", 2),
-    ("set a (na,5)", 2),
-    ("set a ()", 2),
-    ("set a (na,)", 2),
-    ("set a (,na)", 2),
-    ("set a (na;na)", 2),
-    ("set a (na, na)", 2),
-    ("set a (na", 2),
-    ("set a na)", 2),
-    ("set a (na)x", 2),
-    ("set a ((na))", 2),
-    ("set a nan", 2),
-    ("set a n", 2),
-    ("set a \"x", 2),
-    ("set a \"x\\\"", 2),
-    ("set a \"x\"y", 2),
-    ("set a \"x\"\"y\"", 2),
-    ("set a \"x\ty\"", 2),
-    ("set a \"\u{1f}\"", 2),
-    ("set a \"\\n\"", 2),
-    ("set a \"\\u{}\"", 2),
-    ("set a \"\\u{A}\"", 2),
-    ("set a \"\\u{0000041}\"", 2),
-    ("set a \"\\u{d800}\"", 2),
-    ("set a \"\\u{110000}\"", 2),
-    ("set\u{c}a na", 2),
-    ("descr f nan", 3),
-    ("descr d nan", 3),
-    ("array f d str 1", 3),
-    ("array f x str 9000", 3),
-    ("show x", 4),
-    ("show d", 4),
-    ("set d na", 4),
-    ("set x (na,na,na)", 4),
-    ("set a (na,na,na)", 8),
-    ("set one (na,na)", 8),
-    ("set none (na,na)", 8),
-];
+/// Lines of a task, behind a descriptor `d` and arrays of 2, 0 and 1 entries.
+const CALLS: &str = "ok task
+0,2,1 show a
+0,0,1 \tshow \t none\t
+ok set a na
+ok set a (na)
+ok set a (\"x y\",\"#,)\")
+ok set a (na,\"\\u{7f}\\u{10ffff}\")
+ok set none \"x\"
+ok set one (\"x\")
+0,2,1 copy a into a
+0,1,1 copy one into a
+ok stats d
+ok image d
+2:6 task 1
+2:6 add a \"x\"
+2:6 show
+2:6 show na
+2:6 show \"a\"
+2:6 show a a
+2:6 show a into a
+2:6 show a # why
+2:6 set a
+2:6 set a a
+2:6 set a na na
+2:6 set na na
+2:6 set a 5
+2:6 set a true
+2:6 set a hex:00
+2:6 set a (na,5)
+2:6 set a ()
+2:6 set a (na,)
+2:6 set a (,na)
+2:6 set a (na;na)
+2:6 set a (na, na)
+2:6 set a (na
+2:6 set a na)
+2:6 set a (na)x
+2:6 set a ((na))
+2:6 set a nan
+2:6 set a n
+2:6 set a \"x
+2:6 set a \"x\\\"
+2:6 set a \"x\"y
+2:6 set a \"x\ty\"
+2:6 set a \"\u{1f}\"
+2:6 set a \"\\n\"
+2:6 set a \"\\u{}\"
+2:6 set a \"\\u{A}\"
+2:6 set a \"\\u{0000041}\"
+2:6 set a \"\\u{d800}\"
+2:6 set a \"\\u{110000}\"
+2:6 set\u{c}a na
+2:6 copy a
+2:6 copy a into
+2:6 copy a b
+2:6 copy a into a a
+2:6 copy a onto a
+2:6 copy na into a
+2:6 copy \"x\" into a
+2:6 stats
+2:6 stats d d
+2:6 stats d into a
+2:6 stats d[0,1,1]
+2:6 image \"d\"
+3:6 descr f nan
+3:6 descr d nan
+3:6 array f d str 1
+3:6 array f x str 9000
+4:6 show x
+4:6 show d
+4:6 set d na
+4:6 set x (na,na,na)
+4:6 copy x into a
+4:6 copy a into d
+4:6 stats a
+4:6 image x
+8:6 set a (na,na,na)
+8:6 set one (na,na)
+8:6 set none (na,na)
+8:6 copy a into one
+8:6 copy none into a
+";
 
 #[test]
 fn calls(rt: HostRuntime) -> Result<(), Fail> {
-    let before = "descr d nan\narray a d str 2\narray none d str 0\narray one d str 1\ntask\n";
-    for (line, want) in CALLS {
-        let code = fault_behind(rt.alloc(), before, 6, line)?;
-        assert_eq!(rt; code, *want, "of {line:?}");
-    }
-    Ok(())
+    let before = "descr d nan|array a d str 2|array none d str 0|array one d str 1|task|";
+    try_rows(&rt, rt.alloc(), before, CALLS, "|end|")
+}
+
+/// Views of an array `a` of 3 entries, the first version's.
+const VIEWS: &str = "0,3,1 show a[0,3,1]
+2,3,-1 show a[2,3,-1]
+1,2,1 show a[1,2,01]
+3,0,-5 show a[3,0,-5]
+0,1,2147483647 show a[0,1,2147483647]
+2,1,-2147483648 show a[2,1,-2147483648]
+ok set a[0,2,2] (na,\"x\")
+0,2,1 copy a[0,2,1] into a[1,2,1]
+6:4 show a[0,4,1]
+6:4 show a[2,2,1]
+6:4 show a[3,1,1]
+6:4 show a[4,0,1]
+6:4 show a[0,1,0]
+6:4 show a[0,0,0]
+6:4 show a[-1,1,1]
+6:4 show a[0,-1,1]
+6:4 show a[4294967296,0,1]
+6:4 show a[0,4294967297,1]
+6:4 show a[0,1,2147483648]
+6:4 show a[0,1,-2147483649]
+6:4 set a[0,4,1] (na,na)
+6:4 copy a into a[1,3,1]
+5:4 show a[9223372036854775808,1,1]
+5:4 show a[9,9223372036854775808,0]
+5:4 set a[0,9,1] (na,<8192*na,>na)
+4:4 show x[0,9223372036854775808,1]
+8:4 set a[0,2,1] (na,na,na)
+8:4 copy a[0,2,1] into a
+2:4 show na[0,1,1]
+2:4 show a[0,1]
+2:4 show a[0,1,1,1]
+2:4 show a[]
+2:4 show a[0,1,1
+2:4 show a[0,1,1]]
+2:4 show a[0,1,1]x
+2:4 show a[0,,1]
+2:4 show [0,1,1]
+2:4 show a[ 0,1,1]
+2:4 show a[::]
+2:4 set a[0:1] na
+2:4 copy a into a[::-1]
+2:4 show x[9:9223372036854775808]
+";
+
+#[test]
+fn views(rt: HostRuntime) -> Result<(), Fail> {
+    try_rows(
+        &rt,
+        rt.alloc(),
+        "descr d nan|array a d str 3|task|",
+        VIEWS,
+        "|end|",
+    )
+}
+
+/// Slices of an array `b` of 3 entries.
+const SLICES: &str = "2,3,-1 show b[::-1]
+1,2,1 show b[-2:]
+0,1,2 show b[:-1:2]
+0,0,1 show b[5:]
+0,3,1 show b[:]
+0,3,1 show b[::]
+1,1,1 show b[1:2:]
+0,3,1 show b[-9223372036854775808:9223372036854775807]
+1,2,1 show b[1,2,1]
+2,3,-1 copy b[::-1] into b[:]
+ok set b[1:] (na,\"x\")
+6:5 show b[::0]
+6:5 show b[::9999999999]
+6:5 show b[:0:-9999999999]
+6:5 copy b into b[::0]
+5:5 show b[9223372036854775808:]
+5:5 show b[:-9223372036854775809:0]
+5:5 show b[::9223372036854775808]
+4:5 show x[::0]
+8:5 copy b[1:] into b
+2:5 show b[:::]
+2:5 show b[1:x]
+2:5 show b[1:2,1]
+2:5 show b[:
+";
+
+#[test]
+fn slices(rt: HostRuntime) -> Result<(), Fail> {
+    let before = "version 2|descr d nan|array b d str 3|task|";
+    try_rows(&rt, rt.alloc(), before, SLICES, "|end|")
 }

@@ -1,3 +1,4 @@
 pub use Rattle.sa_base.specs.Items
+pub mod Lists
 pub mod Texts
 pub mod Values

@@ -6,12 +6,14 @@ mod stretched;
 mod text;
 mod text_error;
 mod value;
+mod value_list;
 mod weight;
 
 pub use stretched::{stretched_at, stretched_len};
 pub use text::Text;
 pub use text_error::TextError;
 pub use value::Value;
+pub use value_list::ValueList;
 pub use weight::{value_weight, values_weight};
 
 #[cfg(test)]

@@ -1,4 +1,4 @@
-ghost use Rattle.std.specs.Prelude.{◌≡◌, ◌+◌, ◌≤◌, length};
+ghost use Rattle.std.specs.Prelude.{◌≡◌, ◌+◌, ◌*◌, ◌≤◌, length};
 ghost use Rattle.sa_text.specs.Texts.{most_bytes};
 ghost use Rattle.sa_text.specs.Values.{value_weight, weight_of};
 
@@ -22,7 +22,8 @@ pub fn value_weight(value: &Value) -> u64
 /// The weight of the values: 16 for each, and the bytes of each text.
 pub fn values_weight(values: &[Value]) -> u64
     requires { length values.now ≤ 8192 }
-    ensures { result ≡ weight_of values.now }
+    ensures weight { result ≡ weight_of values.now }
+    ensures most { result ≤ 65552 * length values.now }
 {
     let mut weight = 0u64;
     for value in values {

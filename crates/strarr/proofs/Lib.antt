@@ -1,11 +1,3 @@
-pub mod CallLemmas
-pub mod DecideLemmas
 pub mod EndingLemmas
-pub mod HeldLemmas
-pub mod PieceLemmas
-pub mod PlayLemmas
-pub mod RefusalLemmas
-pub mod RunLemmas
-pub mod SlotLemmas
+pub mod SerialLemmas
 pub mod StreamLemmas
-pub mod WorldLemmas

@@ -1,9 +1,10 @@
 -- The output of the program: a status and bytes, for the words of the command line and the bytes of the input.
-use Rattle.std.specs.Prelude.{ℕ, nat_lt, List, [], ◌∷◌, length, Option, Some, None, if◌then◌else◌, codes}
+use Rattle.std.specs.Prelude.{ℕ, nat_lt, List, [], ◌∷◌, length, false, Option, Some, None, if◌then◌else◌, codes}
 use Rattle.sa_lines.specs.Tokens.{is_word}
 use Rattle.sa_script.specs.Scripts.{meaning, either}
 use Rattle.sa_report.specs.Reports.{fault_line}
-use Rattle.strarr.specs.Plays.{report_of_play, serial}
+use Rattle.sa_loop.specs.Histories.{serial}
+use Rattle.sa_report.specs.Plays.{report_of_play}
 use Rattle.strarr.specs.declared.words.Command.{Command}
 use Rattle.strarr.specs.declared.words.Command.TheVariants as command
 use Rattle.strarr.specs.declared.status.Status.{Status}
@@ -21,7 +22,7 @@ most_script_bytes = 4194304
 
 -- for an input that is not too long: the report of the script's serial history, or the fault of what is no script
 abbrev pub answer_of : List ℕ → Status × List ℕ
-answer_of input = either (meaning input) (λ script. (status.Done, report_of_play script (serial script.tasks) [])) (λ fault. (status.Script, fault_line fault.0 fault.1))
+answer_of input = either (meaning input) (λ script. (status.Done, report_of_play script (serial script.tasks) (λ task call. false))) (λ fault. (status.Script, fault_line fault.0 fault.1))
 
 abbrev pub output_for : Option Command → List ℕ → Status × List ℕ
 output_for None input = (status.Words, [])

@@ -2,16 +2,12 @@
 //! writes its report to standard output.
 #![tactic(auto)]
 
-mod deciding;
-mod laws;
 mod runner;
 mod status;
-mod stores;
 mod streams;
 mod top;
 mod words;
 
-pub use laws::{calls_leave_rest, layouts_show_items};
 use sa_base::{StdSink, StdSource};
 pub use status::Status;
 use std::env;

@@ -77,8 +77,8 @@ fn answer(alloc: Global, text: &[u8]) -> Result<(Status, Vec<u8>), Memory>
 {
     match parse(alloc, text) {
         Ok(script) => {
-            let told = run_serial(alloc, &script)?;
-            Ok((Status::Done, report(alloc, &script, &told)?))
+            let run = run_serial(alloc, &script)?;
+            Ok((Status::Done, report(alloc, &script, &run)?))
         }
         Err(ScriptFault::Fault { code, line }) => {
             Ok((Status::Script, fault_line(alloc, code, line)?))

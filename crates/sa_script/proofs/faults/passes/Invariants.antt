@@ -1,5 +1,5 @@
 use Rattle.std.proofs.Common.{◌≡◌, ◌+◌, take}
-use Rattle.sa_script.specs.Decls.{entries_of}
+use Rattle.sa_call.specs.Decls.{entries_of}
 use Rattle.sa_script.proofs.faults.passes.Given as goal
 
 abbrev pub invariant-loop-array : goal.invariant-loop-array

@@ -2,7 +2,7 @@ use Rattle.std.proofs.Common.{List, ℕ, ap, ap₂, ◌∙◌, string_bytes, Str
 use Rattle.std.specs.List.{position}
 use Rattle.std.specs.Str.{bytes_eq}
 use Rattle.sa_script.specs.Contexts.{number_in}
-use Rattle.sa_script.specs.Decls.{Known}
+use Rattle.sa_script.specs.Names.{Known}
 use Rattle.sa_script.proofs.NameLemmas.{position_strings}
 use Rattle.sa_script.proofs.names.Names.descr_number.Goals as goal
 

@@ -1,0 +1,149 @@
+-- What comes of a call by what was read is what comes of it by descriptor.
+use Rattle.std.proofs.Common.{◌≡◌, ℕ, ◌+◌, ◌*◌, ◌<◌, eqb, nat_lt, true, ◌||◌, cond, List, [], ◌∷◌, length, map, Option, Some, None, refl, sym, ap, ◌∙◌, arith}
+use Rattle.std.specs.List.{list_any, filter, count_by, sum, sum_by, range_with_len}
+use Rattle.std.proofs.lemmas.Bool.{or_left, eq-eqb, lt-ltb, ltb-true, false≢true}
+use Rattle.std.proofs.lemmas.List.Sums.{sum_by-cons, length-filter}
+use Rattle.sa_base.specs.Deeds.{Place, Part, Read, Counted, Pictured}
+use Rattle.sa_base.specs.declared.stats.Stats.{Stats}
+use Rattle.sa_plain.specs.Items.{count_of}
+use Rattle.sa_plain.specs.declared.items.Items.{Items}
+use Rattle.sa_view.specs.declared.view.View.{View}
+use Rattle.sa_call.specs.declared.call.Call.{Call}
+use Rattle.sa_call.specs.declared.call.Op.{Op}
+use Rattle.sa_call.specs.declared.call.Op.TheVariants as op
+use Rattle.sa_call.specs.declared.call.Operand.{Operand}
+use Rattle.sa_call.specs.declared.form.Gives.{Gives}
+use Rattle.sa_call.specs.declared.form.Gives.TheVariants as gives
+use Rattle.sa_call.specs.declared.operands.Operands.TheVariants as operands
+use Rattle.sa_call.specs.declared.operands.Picture.{Picture}
+use Rattle.sa_call.specs.declared.reply.Refusal.TheVariants as refusal
+use Rattle.sa_call.specs.declared.reply.Reply.TheVariants as reply
+use Rattle.sa_call.specs.Columns.{columns_read, columns_weight, outcome_read}
+use Rattle.sa_call.specs.Decides.{decide, decided, done, outcome_on, refused_with, told_by}
+use Rattle.sa_call.specs.Decls.{Declared, IsDeclared}
+use Rattle.sa_call.specs.Forms.{entry, descr_of}
+use Rattle.sa_call.specs.Parts.{Parts, part_at, part_weight, items_read, literal_weight, weight_read, columns_of, picture_weight}
+use Rattle.sa_call.specs.Told.{homes_of, is_named, is_number, items_told, operand_is_at, output_is_at, parts_told, places_told, view_counts, weighed_by, weighed_parts}
+use Rattle.sa_call.specs.Valid.{IsCall, are_of, is_descr_of, output_stands}
+use Rattle.sa_call.proofs.PartLemmas.{any-declared, columns-told, once-among, part-there, sum_by-map, weight-told, count-once}
+
+-- a call that gives items is on no descriptor as a whole
+descr-none : (o : Op) → (entry o).gives ≡ gives.Same → descr_of o ≡ None
+descr-none op.Set same = refl
+descr-none op.Copy same = refl
+descr-none op.Show same = refl
+descr-none (op.Stats d) same = cc
+descr-none (op.Image d) same = cc
+
+-- each descriptor with a view of a call is one of its descriptors, once
+home-once : (decls : Declared) (call : Call) → IsDeclared decls → IsCall decls call → (d : ℕ) → list_any (operand_is_at decls d) call.operands ≡ true → count_by (eqb d) (homes_of decls call) ≡ 1
+home-once decls call declared valid d any =
+    let below = any-declared decls call.operands d declared valid.views any in
+    let viewed = or_left (list_any (operand_is_at decls d) call.operands) (output_is_at decls d call.out) any in
+    let named = or_left (list_any (operand_is_at decls d) call.operands || output_is_at decls d call.out) (is_number d (descr_of call.op)) viewed in
+    once-among (is_named decls call) d (length decls.descrs) below named
+
+-- lists that were read, told by descriptor
+pub items-decide : (decls : Declared) (call : Call) (lists : List Items) (weights : List ℕ) → IsDeclared decls → IsCall decls call → (entry call.op).gives ≡ gives.Same → map count_of lists ≡ view_counts call.operands
+    → outcome_read decls call (columns_read call.operands lists) ≡ decide decls call (parts_told decls call (operands.Items lists) weights)
+items-decide decls call lists weights declared valid same counts =
+    let homes = homes_of decls call in
+    let told = λ (d : ℕ). Read (items_told decls d call.operands lists) in
+    let parts = map (λ (d : ℕ). (d, told d)) homes in
+    let columns = columns_read call.operands lists in
+    let once = home-once decls call declared valid in
+    let found : (d : ℕ) → list_any (operand_is_at decls d) call.operands ≡ true → items_read (part_at parts d) ≡ items_told decls d call.operands lists =
+    λ d any. ap items_read (part-there told homes d (once d any)) in
+    let read = columns-told decls (λ d. items_read (part_at parts d)) call.operands lists counts found in
+    let weight : weight_read call parts ≡ columns_weight columns =
+    ap (λ n. n + sum_by literal_weight call.operands) (sum_by-map (λ (p : ℕ × Part). part_weight p.1) (λ (d : ℕ). (d, told d)) homes)
+    ∙ weight-told decls homes call.operands lists counts once in
+    let heavy = refused_with refusal.TooMuch 0 in
+    let none = descr-none call.op same in
+    let by_columns : decide decls call parts ≡ cond (nat_lt 1048576 (weight_read call parts)) heavy (outcome_on decls call (weight_read call parts) (columns_of decls (λ d. items_read (part_at parts d)) call.operands)) =
+    ap (λ (o : Option ℕ). cond (nat_lt 1048576 (weight_read call parts)) heavy (decided decls call o parts)) none in
+    sym (by_columns
+    ∙ ap (λ w. cond (nat_lt 1048576 w) heavy (outcome_on decls call w (columns_of decls (λ d. items_read (part_at parts d)) call.operands))) weight
+    ∙ ap (λ cs. cond (nat_lt 1048576 (columns_weight columns)) heavy (outcome_on decls call (columns_weight columns) cs)) read)
+
+-- one part for each of some descriptors
+abbrev each_part : Part → List ℕ → Parts
+each_part part ds = map (λ d. (d, part)) ds
+
+weight-each : (part : Part) (ds : List ℕ) → sum_by (λ (p : ℕ × Part). part_weight p.1) (each_part part ds) ≡ length ds * part_weight part
+weight-each part [] = omega arith
+weight-each part (d ∷ ds) =
+    let cons = sum_by-cons (λ (p : ℕ × Part). part_weight p.1) (d, part) (each_part part ds) in
+    let rest = weight-each part ds in
+    omega arith
+
+-- a descriptor that a call is on as a whole is the only one
+alone : (part : Part) (d n : ℕ) → d < n → (part_at (each_part part (filter (eqb d) (range_with_len 0 n))) d ≡ part)
+    × (sum_by (λ (p : ℕ × Part). part_weight p.1) (each_part part (filter (eqb d) (range_with_len 0 n))) ≡ part_weight part)
+alone part d n below =
+    let homes = filter (eqb d) (range_with_len 0 n) in
+    let one : length homes ≡ 1 = length-filter (eqb d) (range_with_len 0 n) ∙ count-once d 0 n (omega arith) (omega arith) in
+    let each = weight-each part homes in
+    let product : length homes * part_weight part ≡ 1 * part_weight part = ap (λ m. m * part_weight part) one in
+    (part-there (λ k. part) homes d (once-among (eqb d) d n below (eq-eqb d d refl)), omega arith)
+
+-- the statistics or the picture of a descriptor that is too heavy, or is not
+whole : (part : Part) (d n : ℕ) → d < n
+    → cond (nat_lt 1048576 (sum_by (λ (p : ℕ × Part). part_weight p.1) (each_part part (filter (eqb d) (range_with_len 0 n))) + 0)) (refused_with refusal.TooMuch 0) (told_by (part_at (each_part part (filter (eqb d) (range_with_len 0 n))) d))
+    ≡ cond (nat_lt 1048576 (part_weight part)) (refused_with refusal.TooMuch 0) (told_by part)
+whole part d n below =
+    let only = alone part d n below in
+    let parts = each_part part (filter (eqb d) (range_with_len 0 n)) in
+    let weight : sum_by (λ (p : ℕ × Part). part_weight p.1) parts + 0 ≡ part_weight part = let e = only.1 in omega arith in
+    ap (λ w. cond (nat_lt 1048576 w) (refused_with refusal.TooMuch 0) (told_by (part_at parts d))) weight
+    ∙ ap (λ (p : Part). cond (nat_lt 1048576 (part_weight part)) (refused_with refusal.TooMuch 0) (told_by p)) only.0
+
+-- statistics that were read
+pub stats-decide : (decls : Declared) (o : Op) (os : List Operand) (out : Option View) (stats : Stats) (weights : List ℕ) → (entry o).gives ≡ gives.Statistics
+    → are_of (entry o).needs os ≡ true → output_stands (entry o).into out ≡ true → is_descr_of decls (descr_of o) ≡ true
+    → done (reply.Sized stats) ≡ decide decls (record { op = o; operands = os; out = out }) (parts_told decls (record { op = o; operands = os; out = out }) (operands.Stats stats) weights)
+stats-decide decls op.Set os out stats weights same sorts output descr = cc
+stats-decide decls op.Copy os out stats weights same sorts output descr = cc
+stats-decide decls op.Show os out stats weights same sorts output descr = cc
+stats-decide decls (op.Image d) os out stats weights same sorts output descr = cc
+stats-decide decls (op.Stats d) (o ∷ os) out stats weights same sorts output descr = absurd (false≢true sorts)
+stats-decide decls (op.Stats d) [] (Some v) stats weights same sorts output descr = absurd (false≢true output)
+stats-decide decls (op.Stats d) [] None stats weights same sorts output descr = sym (whole (Counted stats) d (length decls.descrs) (ltb-true d (length decls.descrs) descr))
+
+-- a picture that was read
+pub picture-decide : (decls : Declared) (o : Op) (os : List Operand) (out : Option View) (p : Picture) (weights : List ℕ) → (entry o).gives ≡ gives.Picture
+    → are_of (entry o).needs os ≡ true → output_stands (entry o).into out ≡ true → is_descr_of decls (descr_of o) ≡ true
+    → cond (nat_lt 1048576 (picture_weight p.entries p.arena)) (refused_with refusal.TooMuch 0) (done (reply.Pictured p))
+    ≡ decide decls (record { op = o; operands = os; out = out }) (parts_told decls (record { op = o; operands = os; out = out }) (operands.Picture p) weights)
+picture-decide decls op.Set os out p weights same sorts output descr = cc
+picture-decide decls op.Copy os out p weights same sorts output descr = cc
+picture-decide decls op.Show os out p weights same sorts output descr = cc
+picture-decide decls (op.Stats d) os out p weights same sorts output descr = cc
+picture-decide decls (op.Image d) (o ∷ os) out p weights same sorts output descr = absurd (false≢true sorts)
+picture-decide decls (op.Image d) [] (Some v) p weights same sorts output descr = absurd (false≢true output)
+picture-decide decls (op.Image d) [] None p weights same sorts output descr = sym (whole (Pictured p.entries p.arena) d (length decls.descrs) (ltb-true d (length decls.descrs) descr))
+
+-- the weights of what is too heavy
+weight-by : (given : Gives) (places : List Place) (weight : ℕ) → part_weight (weighed_by given places weight) ≡ weight
+weight-by gives.Same places weight = refl
+weight-by gives.Statistics places weight = refl
+weight-by gives.Picture places weight = refl
+
+weight-weighed : (decls : Declared) (call : Call) (ds weights : List ℕ) → length weights ≡ length ds → sum_by (λ (p : ℕ × Part). part_weight p.1) (weighed_parts decls call ds weights) ≡ sum weights
+weight-weighed decls call [] [] long = refl
+weight-weighed decls call [] (w ∷ ws) long = absurd (omega arith)
+weight-weighed decls call (d ∷ ds) [] long = absurd (omega arith)
+weight-weighed decls call (d ∷ ds) (w ∷ ws) long =
+    let part = weighed_by (entry call.op).gives (places_told decls d call.operands) w in
+    let left = sum_by-cons (λ (p : ℕ × Part). part_weight p.1) (d, part) (weighed_parts decls call ds ws) in
+    let right = sum_by-cons (λ x. x) w ws in
+    let one = weight-by (entry call.op).gives (places_told decls d call.operands) w in
+    let rest = weight-weighed decls call ds ws (omega arith) in
+    omega arith
+
+pub big-decide : (decls : Declared) (call : Call) (weight : ℕ) (weights : List ℕ) → 1048576 < weight → length weights ≡ length (homes_of decls call) → sum weights + sum_by literal_weight call.operands ≡ weight
+    → refused_with refusal.TooMuch 0 ≡ decide decls call (parts_told decls call (operands.Big weight) weights)
+big-decide decls call weight weights heavy long weighs =
+    let sums = weight-weighed decls call (homes_of decls call) weights long in
+    let over : nat_lt 1048576 (weight_read call (parts_told decls call (operands.Big weight) weights)) ≡ true = lt-ltb 1048576 (weight_read call (parts_told decls call (operands.Big weight) weights)) (omega arith) in
+    rw over refl

@@ -1,0 +1,38 @@
+-- Calls: their views, and the number of their elements.
+use Rattle.std.specs.Prelude.{ℕ, ◌==◌, Bool, true, false, List, [], ◌∷◌, ◌++◌, Option, Some, None, unwrap_or, map}
+use Rattle.sa_view.specs.declared.view.View.{View}
+use Rattle.sa_view.specs.Broadcasts.{broadcast}
+use Rattle.sa_plain.specs.Items.{count_of}
+use Rattle.sa_call.specs.declared.call.Operand.{Operand}
+use Rattle.sa_call.specs.declared.call.Operand.TheVariants as operand
+use Rattle.sa_call.specs.declared.call.Call.{Call}
+
+-- how many items an operand has
+abbrev pub operand_count : Operand → ℕ
+operand_count (operand.View v) = v.count
+operand_count (operand.Literal items) = count_of items
+
+abbrev pub output_counts : Option View → List ℕ
+output_counts None = []
+output_counts (Some out) = out.count ∷ []
+
+-- the counts of the operands and of the output
+abbrev pub counts_of : Call → List ℕ
+counts_of call = map operand_count call.operands ++ output_counts call.out
+
+-- how many elements a call has: the length of all counts
+abbrev pub elements_in : Call → ℕ
+elements_in call = unwrap_or (broadcast (counts_of call)) 0
+
+abbrev pub is_count : ℕ → Option View → Bool
+is_count n None = true
+is_count n (Some out) = out.count == n
+
+-- there is a length, and it is the output's
+abbrev pub is_length_of : Option View → Option ℕ → Bool
+is_length_of out None = false
+is_length_of out (Some n) = is_count n out
+
+-- the counts of operands and output have a length, and it is the output's
+abbrev pub lengths_fit : Call → Bool
+lengths_fit call = is_length_of call.out (broadcast (counts_of call))

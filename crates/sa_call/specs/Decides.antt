@@ -1,0 +1,69 @@
+-- What a call makes of what it read: its results and its reply.
+use Rattle.std.specs.Prelude.{ℕ, nat_lt, Bool, false, not, List, map, Option, Some, None, Result, Ok, Err, if◌then◌else◌}
+use Rattle.sa_base.specs.Items.{Item}
+use Rattle.sa_base.specs.Deeds.{Part, Read, Weighed, Counted, Pictured, PictureWeighed}
+use Rattle.sa_text.specs.Values.{value_of}
+use Rattle.sa_descr.specs.Rules.{is_given, rule_at}
+use Rattle.sa_view.specs.declared.view.View.{View}
+use Rattle.sa_plain.specs.declared.items.Items.{Items}
+use Rattle.sa_plain.specs.declared.items.Items.TheVariants.{Values}
+use Rattle.sa_call.specs.declared.call.Call.{Call}
+use Rattle.sa_call.specs.declared.reply.Refusal.{Refusal}
+use Rattle.sa_call.specs.declared.reply.Refusal.TheVariants as refusal
+use Rattle.sa_call.specs.declared.reply.Reply.{Reply}
+use Rattle.sa_call.specs.declared.reply.Reply.TheVariants as reply
+use Rattle.sa_call.specs.declared.reply.Outcome.{Outcome}
+use Rattle.sa_call.specs.Calls.{elements_in}
+use Rattle.sa_call.specs.Decls.{Declared, home_of}
+use Rattle.sa_call.specs.Elements.{elements, gathered}
+use Rattle.sa_call.specs.Forms.{descr_of}
+use Rattle.sa_call.specs.Limits.{most_weight}
+use Rattle.sa_call.specs.Parts.{Parts, part_at, items_read, weight_read, columns_of}
+
+-- the number of a refusal in a report
+abbrev pub refusal_code : Refusal → ℕ
+refusal_code refusal.NoMissing = 1
+refusal_code refusal.TooMuch = 4
+
+-- a call that is refused at an element changes nothing
+abbrev pub refused_with : Refusal → ℕ → Outcome
+refused_with cause at = record { results = None; reply = reply.Refused (refusal_code cause) at }
+
+-- Whether the output forbids missing values: its descriptor has none.
+abbrev pub forbids : Declared → Option View → Bool
+forbids decls None = false
+forbids decls (Some out) = not (is_given (rule_at (map (λ d. d.na) decls.descrs) (home_of decls out.array)))
+
+-- items as a list of one kind
+abbrev pub items_from : List Item → Items
+items_from items = Values (map value_of items)
+
+-- the first refusal, or the results: put into the output, or answered where there is none
+abbrev pub outcome_of : Option View → Result (List Item) (Refusal × ℕ) → Outcome
+outcome_of out (Err refused) = refused_with refused.0 refused.1
+outcome_of None (Ok items) = record { results = None; reply = reply.Shown (items_from items) }
+outcome_of (Some out) (Ok items) = record { results = Some (items_from items); reply = reply.Done }
+
+-- what comes of the items of the operands, which have this weight
+abbrev pub outcome_on : Declared → Call → ℕ → List (List Item) → Outcome
+outcome_on decls call weight columns = outcome_of call.out (gathered (forbids decls call.out) weight 0 (elements call.op columns (elements_in call)))
+
+abbrev pub done : Reply → Outcome
+done answer = record { results = None; reply = answer }
+
+-- the statistics or the picture that was read of the descriptor; another part tells nothing
+abbrev pub told_by : Part → Outcome
+told_by (Counted stats) = done (reply.Sized stats)
+told_by (Pictured entries arena) = done (reply.Pictured (record { entries = entries; arena = arena }))
+told_by (Read items) = done reply.Done
+told_by (Weighed places weight) = done reply.Done
+told_by (PictureWeighed weight) = done reply.Done
+
+-- what comes of a call that is not too heavy: of the descriptor whose statistics or picture it gives, or of its operands
+abbrev pub decided : Declared → Call → Option ℕ → Parts → Outcome
+decided decls call (Some d) parts = told_by (part_at parts d)
+decided decls call None parts = outcome_on decls call (weight_read call parts) (columns_of decls (λ d. items_read (part_at parts d)) call.operands)
+
+-- What comes of a call, by what it read of its descriptors. Where that weighs too much it is refused at once.
+abbrev pub decide : Declared → Call → Parts → Outcome
+decide decls call parts = if nat_lt most_weight (weight_read call parts) then refused_with refusal.TooMuch 0 else decided decls call (descr_of call.op) parts

@@ -1,0 +1,14 @@
+pub use Rattle.sa_base.specs.Deeds
+pub use Rattle.sa_plain.specs.Items
+pub mod Calls
+pub mod Columns
+pub mod Decides
+pub mod Decls
+pub mod Elements
+pub mod Forms
+pub mod Laws
+pub mod Limits
+pub mod Parts
+pub mod Refusals
+pub mod Told
+pub mod Valid

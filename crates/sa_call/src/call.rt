@@ -1,0 +1,42 @@
+use sa_base::Sequence;
+use sa_plain::Items;
+use sa_view::View;
+
+/// What a call does.
+#[derive(Clone, Copy, Debug, PartialEq, Eq)]
+pub enum Op {
+    /// Puts the items of a literal into the output.
+    Set,
+    /// Puts the items of a view into the output.
+    Copy,
+    /// Answers the items of a view.
+    Show,
+    /// Answers the statistics of the descriptor of this number.
+    Stats(u8),
+    /// Answers the picture of the descriptor of this number: its entries and its arena.
+    Image(u8),
+}
+
+/// An operand of a call: items of an array, or the items themselves.
+#[derive(Debug, Drop)]
+pub enum Operand {
+    View(View),
+    Literal(Items),
+}
+
+/// The operands of a call, in order.
+pub type OperandList = Sequence<Operand>;
+
+/// A call of a task.
+#[derive(Debug, Drop)]
+pub struct Call {
+    pub op: Op,
+    pub operands: OperandList,
+    pub out: Option<View>,
+}
+
+/// The calls of a task, numbered from 0.
+pub type CallList = Sequence<Call>;
+
+/// The tasks of a script, numbered from 0.
+pub type TaskList = Sequence<CallList>;

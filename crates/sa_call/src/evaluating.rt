@@ -1,0 +1,154 @@
+ghost use Rattle.std.specs.Prelude.{ℕ, ◌≡◌, ◌≤◌, ◌∷◌, [], List, length, map, nat_lt, IfOk, Ok, if◌then◌else◌};
+ghost use Rattle.std.specs.List.{All};
+ghost use Rattle.sa_plain.specs.Items.{count_of, items_of, items_weight};
+ghost use Rattle.sa_call.specs.Calls.{elements_in, operand_count};
+ghost use Rattle.sa_call.specs.Columns.{columns_read, outcome_read};
+ghost use Rattle.sa_call.specs.Decides.{decide, done, outcome_of, outcome_on, refused_with};
+ghost use Rattle.sa_call.specs.Decls.{IsDeclared};
+ghost use Rattle.sa_call.specs.Forms.{entry};
+ghost use Rattle.sa_call.specs.Limits.{most_entries, most_items, most_weight};
+ghost use Rattle.sa_call.specs.Parts.{picture_weight};
+ghost use Rattle.sa_call.specs.Told.{parts_told, view_counts, AreOperands, AreWeights};
+ghost use Rattle.sa_call.specs.Valid.{IsCall};
+ghost use Rattle.sa_call.specs.declared.form.Gives.TheVariants.{Same};
+ghost use Rattle.sa_call.specs.declared.reply.Refusal.TheVariants.{TooMuch};
+ghost use Rattle.sa_call.specs.declared.reply.Reply.TheVariants.{Pictured};
+
+use crate::call::{Call, Operand};
+use crate::columns::{columns, columns_weight};
+use crate::decls::Decls;
+use crate::operands::{Operands, Picture};
+use crate::refusals::{MOST_WEIGHT, forbids, results_refusal};
+use crate::reply::{Outcome, Refusal, Reply};
+use sa_base::Memory;
+use sa_plain::Items;
+use sa_view::broadcast;
+use std::alloc::Global;
+
+/// What comes of a call, by what was read for it: its results, where it has an output and is not refused,
+/// and its reply. `Memory` where there is no memory for the outcome.
+pub fn evaluate(
+    alloc: Global,
+    decls: &Decls,
+    call: &Call,
+    read: &Operands,
+) -> Result<Outcome, Memory>
+    requires call { IsCall decls.now call.now }
+    requires read { AreOperands call.now read.now }
+    ensures { IfOk result (λ o. (weights : List ℕ) → AreWeights decls.now call.now read.now weights → o ≡ decide decls.now call.now (parts_told decls.now call.now read.now weights)) }
+{
+    match read {
+        Operands::Big(_) => Ok(Outcome::refused(Refusal::TooMuch, 0)),
+        Operands::Stats(stats) => Ok(Outcome::answered(Reply::Sized(*stats))),
+        Operands::Picture(picture) => drawn(alloc, picture),
+        Operands::Items(lists) => {
+            decls.limits_hold();
+            evaluate_items(alloc, decls, call, lists.as_slice())
+        }
+    }
+}
+
+/// The answer of a picture, which is refused where it weighs too much.
+fn drawn(alloc: Global, picture: &Picture) -> Result<Outcome, Memory>
+    requires { length picture.now.entries ≤ most_entries }
+    ensures { IfOk result (λ o. o ≡ (if nat_lt most_weight (picture_weight picture.now.entries picture.now.arena) then refused_with TooMuch 0 else done (Pictured picture.now))) }
+{
+    if picture.weight() > MOST_WEIGHT {
+        return Ok(Outcome::refused(Refusal::TooMuch, 0));
+    }
+    Ok(Outcome::answered(Reply::Pictured(picture.copy(alloc)?)))
+}
+
+/// What comes of a call that read lists.
+fn evaluate_items(
+    alloc: Global,
+    decls: &Decls,
+    call: &Call,
+    lists: &[Items],
+) -> Result<Outcome, Memory>
+    requires declared { IsDeclared decls.now }
+    requires call { IsCall decls.now call.now }
+    requires moves { (entry call.now.op).gives ≡ Same }
+    requires lists { map count_of lists.now ≡ view_counts call.now.operands }
+    ensures { IfOk result (λ o. o ≡ outcome_read decls.now call.now (columns_read call.now.operands lists.now)) }
+{
+    let columns = columns(alloc, call.operands.as_slice(), lists)?;
+    let weight = columns_weight(columns.as_slice());
+    if weight > MOST_WEIGHT {
+        return Ok(Outcome::refused(Refusal::TooMuch, 0));
+    }
+    let Some(column) = columns.first() else {
+        unreachable!()
+    };
+    moved(alloc, decls, call, column, weight)
+}
+
+/// What comes of a call that moves the items of its one operand, which have this weight.
+fn moved(
+    alloc: Global,
+    decls: &Decls,
+    call: &Call,
+    column: &Items,
+    weight: u64,
+) -> Result<Outcome, Memory>
+    requires declared { IsDeclared decls.now }
+    requires call { IsCall decls.now call.now }
+    requires moves { (entry call.now.op).gives ≡ Same }
+    requires operand { map operand_count call.now.operands ≡ count_of column.now ∷ [] }
+    requires weight { weight ≡ items_weight column.now }
+    requires light { weight ≤ most_weight }
+    ensures { IfOk result (λ o. o ≡ outcome_on decls.now call.now weight (items_of column.now ∷ [])) }
+{
+    let count = elements_in(alloc, call)? as usize;
+    let results = column.stretched(alloc, count)?;
+    let results_weight = if column.len() == 1 {
+        count as u64 * weight
+    } else {
+        weight
+    };
+    let forbidden = forbids(decls, &call.out);
+    match results_refusal(forbidden, weight, results.as_value_list(), results_weight) {
+        Some((cause, at)) => Ok(Outcome::refused(cause, at)),
+        None => Ok(given(call, results)),
+    }
+}
+
+/// Results that are not refused: for the output, or the answer where there is none.
+fn given(call: &Call, results: Items) -> Outcome
+    ensures { result ≡ outcome_of call.now.out (Ok (items_of results)) }
+{
+    match call.out {
+        Some(_) => Outcome {
+            results: Some(results),
+            reply: Reply::Done,
+        },
+        None => Outcome::answered(Reply::Shown(results)),
+    }
+}
+
+/// How many elements a call has.
+fn elements_in(alloc: Global, call: &Call) -> Result<u32, Memory>
+    requires few { length call.now.operands ≤ 8 }
+    requires short { All (λ o. operand_count o ≤ most_items) call.now.operands }
+    ensures { IfOk result (λ n. n ≡ elements_in call.now) }
+{
+    let mut counts = Vec::with_capacity(alloc, call.operands.len() + 1)?;
+    for operand in call.operands.as_slice() {
+        counts.push(operand_count(operand))?;
+    }
+    if let Some(out) = &call.out {
+        counts.push(out.count)?;
+    }
+    Ok(broadcast(counts.as_slice()).unwrap_or(0))
+}
+
+/// How many items an operand has.
+fn operand_count(operand: &Operand) -> u32
+    requires { operand_count operand.now ≤ most_items }
+    ensures { result ≡ operand_count operand.now }
+{
+    match operand {
+        Operand::View(view) => view.count,
+        Operand::Literal(items) => items.len() as u32,
+    }
+}

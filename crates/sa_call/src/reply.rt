@@ -1,0 +1,74 @@
+ghost use Rattle.std.specs.Prelude.{◌≡◌};
+ghost use Rattle.sa_call.specs.Decides.{refusal_code, refused_with, done};
+
+use crate::operands::Picture;
+use sa_base::Stats;
+use sa_plain::Items;
+
+/// Why a call is refused.
+#[derive(Clone, Copy, Debug, PartialEq, Eq)]
+pub enum Refusal {
+    /// A result is missing, and the output's descriptor has no missing values.
+    NoMissing,
+    /// What the call reads and gives weighs more than 1,048,576.
+    TooMuch,
+}
+
+impl Refusal {
+    /// The refusal's number in a report.
+    pub fn code(self) -> u8
+        ensures { result ≡ refusal_code self }
+    {
+        match self {
+            Refusal::NoMissing => 1,
+            Refusal::TooMuch => 4,
+        }
+    }
+}
+
+/// What a call answers.
+#[derive(Debug, Drop)]
+pub enum Reply {
+    /// The results were put into the output.
+    Done,
+    /// The results, of a call without an output.
+    Shown(Items),
+    /// The statistics of a descriptor.
+    Sized(Stats),
+    /// The picture of a descriptor.
+    Pictured(Picture),
+    /// The call was refused, for this reason at this element, and changed nothing.
+    Refused { code: u8, at: u32 },
+}
+
+/// What comes of a call: the results, where it has an output and is not refused, and the reply.
+#[derive(Debug, Drop)]
+pub struct Outcome {
+    pub results: Option<Items>,
+    pub reply: Reply,
+}
+
+impl Outcome {
+    /// Of a call that is refused, for this reason at this element.
+    pub(crate) fn refused(cause: Refusal, at: u32) -> Outcome
+        ensures { result ≡ refused_with cause at }
+    {
+        Outcome {
+            results: None,
+            reply: Reply::Refused {
+                code: cause.code(),
+                at,
+            },
+        }
+    }
+
+    /// Of a call that only answers.
+    pub(crate) fn answered(reply: Reply) -> Outcome
+        ensures { result ≡ done reply }
+    {
+        Outcome {
+            results: None,
+            reply,
+        }
+    }
+}

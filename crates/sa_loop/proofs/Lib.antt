@@ -1,0 +1,14 @@
+pub mod GatheredLemmas
+pub mod PartLemmas
+pub mod PieceLemmas
+pub mod SlotLemmas
+pub mod StepLemmas
+pub mod TakeLemmas
+pub mod WeighLemmas
+pub mod WorldLemmas
+pub mod ViewLemmas
+pub mod HeldLemmas
+pub mod RunLemmas
+pub mod ResultLemmas
+pub mod SameLemmas
+pub mod PerformLemmas

@@ -1,0 +1,307 @@
+-- What was read for a call is what it takes of the world that the layouts show.
+use Rattle.std.proofs.Common.{◌≡◌, ◌<◌, ◌≤◌, ◌+◌, ℕ, eqb, Bool, true, false, ◌||◌, inl, inr, List, [], ◌∷◌, ◌++◌, length, map, replicate, Option, Some, None, refl, sym, ap, ◌∙◌, subst, arith}
+use Rattle.std.specs.List.{AllByRecursion, list_all, list_any, filter, sum, sum_by, zip, range_with_len}
+use Rattle.std.specs.Option.{is_some}
+use Rattle.std.proofs.lemmas.Bool.{and_parts, eq-eqb, false≢true, le-ltb, lt-ltb, ltb-true, or_left, or_right}
+use Rattle.std.proofs.lemmas.Bool.Decides.{eqb_tells}
+use Rattle.std.proofs.lemmas.List.{length-map}
+use Rattle.std.proofs.lemmas.List.FromFn.{length-map-range_with_len}
+use Rattle.std.proofs.lemmas.List.Sums.{length-filter, sum-map, sum_by-cons}
+use Rattle.sa_base.specs.Items.{Item}
+use Rattle.sa_base.specs.Deeds.{Place, Part, Read, Counted, Pictured}
+use Rattle.sa_text.specs.Values.{item_of}
+use Rattle.sa_view.specs.Views.{place_at, places_of}
+use Rattle.sa_view.specs.declared.view.View.{View}
+use Rattle.sa_alloc.specs.Layouts.{Layout, stats_of, entry_image, entry_images, arena_image}
+use Rattle.sa_plain.specs.Items.{count_of}
+use Rattle.sa_plain.specs.declared.items.Items.{Items}
+use Rattle.sa_call.specs.declared.call.Call.{Call}
+use Rattle.sa_call.specs.declared.call.Op.{Op}
+use Rattle.sa_call.specs.declared.call.Op.TheVariants as op
+use Rattle.sa_call.specs.declared.call.Operand.{Operand}
+use Rattle.sa_call.specs.declared.call.Operand.TheVariants as operand
+use Rattle.sa_call.specs.declared.form.Gives.{Gives}
+use Rattle.sa_call.specs.declared.form.Gives.TheVariants as gives
+use Rattle.sa_call.specs.declared.form.Sort.{Sort}
+use Rattle.sa_call.specs.declared.form.Sort.TheVariants as sort
+use Rattle.sa_call.specs.declared.operands.Operands.{Operands}
+use Rattle.sa_call.specs.declared.operands.Operands.TheVariants as operands
+use Rattle.sa_call.specs.Decls.{Declared, IsDeclared, home_of}
+use Rattle.sa_call.specs.Forms.{entry, descr_of}
+use Rattle.sa_call.specs.Parts.{Parts, literal_weight, picture_weight}
+use Rattle.sa_call.specs.Told.{homes_of, is_named, is_number, items_told, operand_is_at, output_is_at, places_in, places_told, view_counts, weighed_by, weighed_parts}
+use Rattle.sa_call.specs.Valid.{IsCall, IsLiteralOperand, are_of, is_descr_of, is_operand_of, is_view_of, output_stands}
+use Rattle.sa_call.proofs.PartLemmas.{count-once}
+use Rattle.sa_loop.specs.Held.{AreHeld, AreShort, CanTake, HasShape, IsShort, IsTaken, IsTakenWhole}
+use Rattle.sa_loop.specs.Runs.{world_of}
+use Rattle.sa_loop.specs.States.{State, World, view_values}
+use Rattle.sa_loop.specs.Takes.{call_weight, is_heavy, items_taken, part, part_by, views_read, weight, weight_by, weights_in}
+use Rattle.sa_loop.proofs.SlotLemmas.{small-lengths}
+use Rattle.sa_loop.proofs.WorldLemmas.{view-known}
+
+-- the operands of a valid call are held, and short
+
+held-operands : (decls : Declared) (held : ℕ → Bool) (layouts : ℕ → Layout) (os : List Operand) → IsDeclared decls → list_all (is_operand_of decls) os ≡ true
+    → ((d : ℕ) → list_any (operand_is_at decls d) os ≡ true → (held d ≡ true) × HasShape decls d (layouts d)) → AreHeld decls held layouts os
+held-operands decls held layouts [] declared views named = tt
+held-operands decls held layouts (operand.Literal items ∷ os) declared views named = (tt, held-operands decls held layouts os declared views named)
+held-operands decls held layouts (operand.View v ∷ os) declared views named =
+    let parts = and_parts (is_view_of decls v) (list_all (is_operand_of decls) os) views in
+    let known = view-known decls v parts.0 in
+    let h = home_of decls v.array in
+    let here = named h (or_left (eqb h h) (list_any (operand_is_at decls h) os) (eq-eqb h h refl)) in (
+      record { home = here.0; inside = record { declared = declared; array = known.0; view = known.1; shape = here.1 } },
+      held-operands decls held layouts os declared parts.1 (λ d any. named d (or_right (eqb h d) (list_any (operand_is_at decls d) os) any)),
+    )
+
+pub are-held : (decls : Declared) (held : ℕ → Bool) (layouts : ℕ → Layout) (call : Call) → CanTake decls held layouts call → AreHeld decls held layouts call.operands
+are-held decls held layouts call can =
+    held-operands decls held layouts call.operands can.declared can.valid.views
+    (λ d any.
+    let viewed = or_left (list_any (operand_is_at decls d) call.operands) (output_is_at decls d call.out) any in
+    let named = or_left (list_any (operand_is_at decls d) call.operands || output_is_at decls d call.out) (is_number d (descr_of call.op)) viewed in
+    (can.homes d named, can.shapes d named))
+
+few-of : (ss : List Sort) (os : List Operand) → are_of ss os ≡ true → length os ≤ length ss
+few-of [] [] are = omega arith
+few-of [] (o ∷ os) are = absurd (false≢true are)
+few-of (sort.Descr ∷ ss) os are = let rest = few-of ss os are in omega arith
+few-of (sort.View ∷ ss) [] are = omega arith
+few-of (sort.View ∷ ss) (operand.View v ∷ os) are = let rest = few-of ss os are in omega arith
+few-of (sort.View ∷ ss) (operand.Literal items ∷ os) are = absurd (false≢true are)
+few-of (sort.Literal ∷ ss) [] are = omega arith
+few-of (sort.Literal ∷ ss) (operand.View v ∷ os) are = absurd (false≢true are)
+few-of (sort.Literal ∷ ss) (operand.Literal items ∷ os) are = let rest = few-of ss os are in omega arith
+
+few-needs : (o : Op) → length (entry o).needs ≤ 8
+few-needs op.Set = omega arith
+few-needs op.Copy = omega arith
+few-needs op.Show = omega arith
+few-needs (op.Stats d) = omega arith
+few-needs (op.Image d) = omega arith
+
+short-literals : (os : List Operand) → AllByRecursion IsLiteralOperand os → AllByRecursion IsShort os
+short-literals [] literals = tt
+short-literals (operand.View v ∷ os) literals = (tt, short-literals os literals.1)
+short-literals (operand.Literal items ∷ os) literals = (literals.0.few, short-literals os literals.1)
+
+pub are-short : (decls : Declared) (call : Call) → IsCall decls call → AreShort call.operands
+are-short decls call valid =
+    let few = few-of (entry call.op).needs call.operands valid.sorts in
+    let most = few-needs call.op in
+    record { few = omega arith; short = short-literals call.operands valid.literals }
+
+-- what a call gives
+
+pub given-same : (o : Op) → descr_of o ≡ None → (entry o).gives ≡ gives.Same
+given-same op.Set none = refl
+given-same op.Copy none = refl
+given-same op.Show none = refl
+given-same (op.Stats d) none = cc
+given-same (op.Image d) none = cc
+
+pub given-statistics : (o : Op) → is_some (descr_of o) ≡ true → ((entry o).gives ≡ gives.Picture → ⊥) → (entry o).gives ≡ gives.Statistics
+given-statistics op.Set some other = absurd (false≢true some)
+given-statistics op.Copy some other = absurd (false≢true some)
+given-statistics op.Show some other = absurd (false≢true some)
+given-statistics (op.Stats d) some other = refl
+given-statistics (op.Image d) some other = absurd (other refl)
+
+-- the lists that were read of a world
+
+counts-read : (decls : Declared) (w : World) (os : List Operand) → map count_of (views_read decls w os) ≡ view_counts os
+counts-read decls w [] = refl
+counts-read decls w (operand.Literal items ∷ os) = counts-read decls w os
+counts-read decls w (operand.View v ∷ os) =
+    ap (λ n. n ∷ map count_of (views_read decls w os)) (length-map (places_of v) _ ∙ length-map-range_with_len (place_at v) 0 v.count)
+    ∙ ap (λ ns. v.count ∷ ns) (counts-read decls w os)
+
+items-same : (decls : Declared) (w : World) (d : ℕ) (os : List Operand) → items_told decls d os (views_read decls w os) ≡ items_taken decls (w d) d os
+items-same decls w d [] = refl
+items-same decls w d (operand.Literal items ∷ os) = items-same decls w d os
+items-same decls w d (operand.View v ∷ os) =
+    let h = home_of decls v.array in
+    let rest = items-same decls w d os in
+    let read : World → ℕ → List (Place × Item) = λ u k. zip (places_in decls v) (map item_of (view_values decls (u k) v)) in
+    elim (eqb_tells h d) [
+      | inl t ↦ rw t.0 (ap (λ k. read w k ++ items_told decls d os (views_read decls w os)) t.1 ∙ ap (λ xs. read w d ++ xs) rest)
+      | inr f ↦ rw f.0 rest
+    ]
+
+-- the parts of a call that reads items
+
+-- a part for each of some descriptors
+abbrev each : (ℕ → Part) → List ℕ → Parts
+each f ds = map (λ d. (d, f d)) ds
+
+weighed-one : (g : Gives) (decls : Declared) (s : State) (call : Call) (d : ℕ) → (g ≡ gives.Statistics → ⊥) → weighed_by g (places_told decls d call.operands) (weight_by g decls s call d) ≡ part_by g decls s call true d
+weighed-one gives.Same decls s call d other = refl
+weighed-one gives.Statistics decls s call d other = absurd (other refl)
+weighed-one gives.Picture decls s call d other = refl
+
+weighed-same : (decls : Declared) (w : World) (call : Call) (ds : List ℕ) → ((entry call.op).gives ≡ gives.Statistics → ⊥)
+    → weighed_parts decls call ds (map (λ d. weight decls (w d) call d) ds) ≡ each (λ d. part decls (w d) call true d) ds
+weighed-same decls w call [] other = refl
+weighed-same decls w call (d ∷ ds) other =
+    ap (λ (p : Part). (d, p) ∷ weighed_parts decls call ds (map (λ k. weight decls (w k) call k) ds)) (weighed-one (entry call.op).gives decls (w d) call d other)
+    ∙ ap (λ (ps : Parts). (d, part decls (w d) call true d) ∷ ps) (weighed-same decls w call ds other)
+
+read-same : (g : Gives) (decls : Declared) (w : World) (call : Call) (d : ℕ) → g ≡ gives.Same → Read (items_told decls d call.operands (views_read decls w call.operands)) ≡ part_by g decls (w d) call false d
+read-same gives.Same decls w call d same = ap (λ items. Read items) (items-same decls w d call.operands)
+read-same gives.Statistics decls w call d same = cc
+read-same gives.Picture decls w call d same = cc
+
+reads-same : (decls : Declared) (w : World) (call : Call) (ds : List ℕ) → (entry call.op).gives ≡ gives.Same
+    → each (λ d. Read (items_told decls d call.operands (views_read decls w call.operands))) ds ≡ each (λ d. part decls (w d) call false d) ds
+reads-same decls w call ds same = ap (λ (f : ℕ → Part). each f ds) (λ i d. read-same (entry call.op).gives decls w call d same i)
+
+weight-all : (decls : Declared) (w : World) (call : Call) → sum (weights_in decls w call) + sum_by literal_weight call.operands ≡ call_weight decls w call
+weight-all decls w call = ap (λ n. n + sum_by literal_weight call.operands) (sum-map (λ d. weight decls (w d) call d) (homes_of decls call))
+
+-- what weighs too much is taken as its weights
+pub taken-heavy : (decls : Declared) (layouts : ℕ → Layout) (call : Call) (weights : List ℕ) (total : ℕ) → ((entry call.op).gives ≡ gives.Statistics → ⊥) → weights ≡ weights_in decls (world_of layouts) call
+    → sum weights + sum_by literal_weight call.operands ≡ total → 1048576 < total → IsTaken decls layouts call (operands.Big total) weights
+taken-heavy decls layouts call weights total other are sums heavy =
+    let w = world_of layouts in
+    let homes = homes_of decls call in
+    let all : call_weight decls w call ≡ total = sym (weight-all decls w call) ∙ ap (λ (ws : List ℕ). sum ws + sum_by literal_weight call.operands) (sym are) ∙ sums in
+    let over : is_heavy decls w call ≡ true = lt-ltb 1048576 (call_weight decls w call) (omega arith) in
+    record {
+      are_operands = heavy;
+      are_weights = (ap length are ∙ length-map homes (λ d. weight decls (w d) call d), sums);
+      parts =
+          ap (weighed_parts decls call homes) are
+          ∙ weighed-same decls w call homes other
+          ∙ ap (λ (b : Bool). each (λ d. part decls (w d) call b d) homes) (sym over);
+    }
+
+-- what does not is taken as its items
+pub taken-light : (decls : Declared) (layouts : ℕ → Layout) (call : Call) (weights : List ℕ) (total : ℕ) (lists : List Items) (none : List ℕ) → (entry call.op).gives ≡ gives.Same → weights ≡ weights_in decls (world_of layouts) call
+    → sum weights + sum_by literal_weight call.operands ≡ total → total ≤ 1048576 → lists ≡ views_read decls (world_of layouts) call.operands → IsTaken decls layouts call (operands.Items lists) none
+taken-light decls layouts call weights total lists none same are sums light read =
+    let w = world_of layouts in
+    let homes = homes_of decls call in
+    let all : call_weight decls w call ≡ total = sym (weight-all decls w call) ∙ ap (λ (ws : List ℕ). sum ws + sum_by literal_weight call.operands) (sym are) ∙ sums in
+    let under : is_heavy decls w call ≡ false = le-ltb 1048576 (call_weight decls w call) (omega arith) in
+    record {
+      are_operands = (same, ap (map count_of) read ∙ counts-read decls w call.operands);
+      are_weights = tt;
+      parts =
+          ap (λ (ls : List Items). each (λ d. Read (items_told decls d call.operands ls)) homes) read
+          ∙ reads-same decls w call homes same
+          ∙ ap (λ (b : Bool). each (λ d. part decls (w d) call b d) homes) (sym under);
+    }
+
+-- a call on a whole descriptor
+
+pub named-whole : (decls : Declared) (call : Call) (number : ℕ) → descr_of call.op ≡ Some number → is_named decls call number ≡ true
+named-whole decls call number is =
+    or_right (list_any (operand_is_at decls number) call.operands || output_is_at decls number call.out) (is_number number (descr_of call.op))
+    (ap (is_number number) is ∙ eq-eqb number number refl)
+
+same-numbers : (d : ℕ) (xs : List ℕ) → filter (eqb d) xs ≡ replicate (length (filter (eqb d) xs)) d
+same-numbers d [] = refl
+same-numbers d (x ∷ xs) =
+    elim (eqb_tells d x) [
+      | inl t ↦ rw t.0 (ap (λ k. k ∷ filter (eqb d) xs) (sym t.1) ∙ ap (λ ys. d ∷ ys) (same-numbers d xs))
+      | inr f ↦ rw f.0 (same-numbers d xs)
+    ]
+
+-- it is the only one
+alone : (d n : ℕ) → d < n → filter (eqb d) (range_with_len 0 n) ≡ d ∷ []
+alone d n below =
+    same-numbers d (range_with_len 0 n)
+    ∙ ap (λ k. replicate k d) (length-filter (eqb d) (range_with_len 0 n) ∙ count-once d 0 n (omega arith) (omega arith))
+
+whole-alone : (decls : Declared) (o : Op) (os : List Operand) (out : Option View) (number : ℕ) → are_of (entry o).needs os ≡ true → output_stands (entry o).into out ≡ true → is_descr_of decls (descr_of o) ≡ true → descr_of o ≡ Some number
+    → (filter (is_named decls (record { op = o; operands = os; out = out })) (range_with_len 0 (length decls.descrs)) ≡ number ∷ []) × (os ≡ [])
+whole-alone decls op.Set os out number sorts output descr is = cc
+whole-alone decls op.Copy os out number sorts output descr is = cc
+whole-alone decls op.Show os out number sorts output descr is = cc
+whole-alone decls (op.Stats d) (o ∷ os) out number sorts output descr is = absurd (false≢true sorts)
+whole-alone decls (op.Stats d) [] (Some v) number sorts output descr is = absurd (false≢true output)
+whole-alone decls (op.Stats d) [] None number sorts output descr is =
+    let same : d ≡ number = cc in
+    (alone d (length decls.descrs) (ltb-true d (length decls.descrs) descr) ∙ ap (λ k. k ∷ []) same, refl)
+whole-alone decls (op.Image d) (o ∷ os) out number sorts output descr is = absurd (false≢true sorts)
+whole-alone decls (op.Image d) [] (Some v) number sorts output descr is = absurd (false≢true output)
+whole-alone decls (op.Image d) [] None number sorts output descr is =
+    let same : d ≡ number = cc in
+    (alone d (length decls.descrs) (ltb-true d (length decls.descrs) descr) ∙ ap (λ k. k ∷ []) same, refl)
+
+-- the only home, and no operands
+home-alone : (decls : Declared) (call : Call) (number : ℕ) → IsCall decls call → descr_of call.op ≡ Some number → (homes_of decls call ≡ number ∷ []) × (call.operands ≡ [])
+home-alone decls call number valid is = whole-alone decls call.op call.operands call.out number valid.sorts valid.output valid.descr is
+
+part-counted : (g : Gives) (decls : Declared) (s : State) (call : Call) (heavy : Bool) (d : ℕ) → g ≡ gives.Statistics → part_by g decls s call heavy d ≡ Counted (stats_of s.layout)
+part-counted gives.Same decls s call heavy d is = cc
+part-counted gives.Statistics decls s call heavy d is = refl
+part-counted gives.Picture decls s call heavy d is = cc
+
+part-pictured : (g : Gives) (decls : Declared) (s : State) (call : Call) (d : ℕ) → g ≡ gives.Picture → (part_by g decls s call false d ≡ Pictured (entry_images s.layout) (arena_image s.layout)) × (weight_by g decls s call d ≡ picture_weight (entry_images s.layout) (arena_image s.layout))
+part-pictured gives.Same decls s call d is = cc
+part-pictured gives.Statistics decls s call d is = cc
+part-pictured gives.Picture decls s call d is = (refl, refl)
+
+-- such a call weighs what is taken of the descriptor
+weight-alone : (decls : Declared) (w : World) (call : Call) (number : ℕ) → IsCall decls call → descr_of call.op ≡ Some number → call_weight decls w call ≡ weight decls (w number) call number
+weight-alone decls w call number valid is =
+    let one = home-alone decls call number valid is in
+    let weigh : ℕ → ℕ = λ d. weight decls (w d) call d in
+    let cons = sum_by-cons weigh number [] in
+    ap (λ ds. sum_by weigh ds + sum_by literal_weight call.operands) one.0 ∙ ap (λ os. sum_by weigh (number ∷ []) + sum_by literal_weight os) one.1 ∙ omega arith
+
+-- a descriptor has few entries
+few-entries : (decls : Declared) (d : ℕ) (l : Layout) → IsDeclared decls → HasShape decls d l → length (entry_images l) ≤ 8192
+few-entries decls d l declared shape =
+    let many = length-map-range_with_len (entry_image l) 0 (length l.states) in
+    let small = (small-lengths decls d declared).entries in
+    let states = shape.states in
+    let sums = ap sum shape.lengths in
+    omega arith
+
+pub taken-whole : (decls : Declared) (held : ℕ → Bool) (layouts : ℕ → Layout) (call : Call) (number : ℕ) (l : Layout) (read : Operands) (weights : List ℕ) → CanTake decls held layouts call → descr_of call.op ≡ Some number → l ≡ layouts number
+    → IsTakenWhole (entry call.op).gives l read weights → IsTaken decls layouts call read weights
+taken-whole decls held layouts call number l (operands.Items lists) weights can is at whole = absurd whole
+taken-whole decls held layouts call number l (operands.Stats stats) weights can is at whole =
+    let w = world_of layouts in
+    let one = home-alone decls call number can.valid is in
+    record {
+      are_operands = whole.0;
+      are_weights = tt;
+      parts =
+          ap (λ ds. each (λ d. Counted stats) ds) one.0
+          ∙ ap (λ (p : Part). (number, p) ∷ []) (ap (λ x. Counted x) (whole.1 ∙ ap stats_of at) ∙ sym (part-counted (entry call.op).gives decls (w number) call (is_heavy decls w call) number whole.0))
+          ∙ sym (ap (λ ds. each (λ d. part decls (w d) call (is_heavy decls w call) d) ds) one.0);
+    }
+taken-whole decls held layouts call number l (operands.Picture p) weights can is at whole =
+    let w = world_of layouts in
+    let one = home-alone decls call number can.valid is in
+    let pictured = part-pictured (entry call.op).gives decls (w number) call number whole.0 in
+    let entries = whole.1 ∙ ap entry_images at in
+    let arena = whole.2 ∙ ap arena_image at in
+    let most : picture_weight (entry_images (layouts number)) (arena_image (layouts number)) ≤ 1048576 = subst (λ (x : Layout). picture_weight (entry_images x) (arena_image x) ≤ 1048576) at whole.3 in
+    let all = weight-alone decls w call number can.valid is ∙ pictured.1 in
+    let under : is_heavy decls w call ≡ false = le-ltb 1048576 (call_weight decls w call) (omega arith) in
+    let long = few-entries decls number (layouts number) can.declared (can.shapes number (named-whole decls call number is)) in
+    record {
+      are_operands = (whole.0, (let same = ap length entries in omega arith));
+      are_weights = tt;
+      parts =
+          ap (λ ds. each (λ d. Pictured p.entries p.arena) ds) one.0
+          ∙ ap (λ es. (number, Pictured es p.arena) ∷ []) entries
+          ∙ ap (λ bs. (number, Pictured (entry_images (layouts number)) bs) ∷ []) arena
+          ∙ ap (λ (q : Part). (number, q) ∷ []) (sym pictured.0)
+          ∙ sym (ap (λ ds. each (λ d. part decls (w d) call false d) ds) one.0)
+          ∙ ap (λ (b : Bool). each (λ d. part decls (w d) call b d) (homes_of decls call)) (sym under);
+    }
+taken-whole decls held layouts call number l (operands.Big total) weights can is at whole =
+    let w = world_of layouts in
+    let one = home-alone decls call number can.valid is in
+    let pictured = part-pictured (entry call.op).gives decls (w number) call number whole.0 in
+    let weighs : total ≡ weight decls (w number) call number = whole.1 ∙ ap (λ (x : Layout). picture_weight (entry_images x) (arena_image x)) at ∙ sym pictured.1 in
+    let other : (entry call.op).gives ≡ gives.Statistics → ⊥ = λ statistics. let picture = whole.0 in cc in
+    let are : weights ≡ weights_in decls w call = whole.2 ∙ ap (λ n. n ∷ []) weighs ∙ sym (ap (λ ds. map (λ d. weight decls (w d) call d) ds) one.0) in
+    let sums : sum weights + sum_by literal_weight call.operands ≡ total =
+    ap (λ ws. sum ws + sum_by literal_weight call.operands) are ∙ weight-all decls w call ∙ weight-alone decls w call number can.valid is ∙ sym weighs in
+    taken-heavy decls layouts call weights total other are sums whole.3

@@ -1,0 +1,11 @@
+pub use Rattle.sa_base.specs.Deeds
+pub mod Gathers
+pub mod Held
+pub mod Histories
+pub mod Laws
+pub mod Performs
+pub mod Plays
+pub mod Runs
+pub mod States
+pub mod Takes
+pub mod Writes

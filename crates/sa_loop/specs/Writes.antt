@@ -1,0 +1,60 @@
+-- What the results of a call make of a state: one put after another.
+use Rattle.std.specs.Prelude.{ℕ, ◌+◌, ◌==◌, List, [], ◌∷◌, map, zip, slice_set, Option, Some, None, if◌then◌else◌}
+use Rattle.sa_base.specs.Items.{Item}
+use Rattle.sa_base.specs.Deeds.{Place, Write, Put}
+use Rattle.sa_text.specs.Values.{value_of}
+use Rattle.sa_view.specs.declared.view.View.{View}
+use Rattle.sa_alloc.specs.Layouts.{Layout, first_entry, put}
+use Rattle.sa_plain.specs.Items.{items_of}
+use Rattle.sa_plain.specs.declared.items.Items.{Items}
+use Rattle.sa_call.specs.declared.call.Call.{Call}
+use Rattle.sa_call.specs.declared.reply.Reply.{Reply}
+use Rattle.sa_call.specs.Decls.{Declared, home_of}
+use Rattle.sa_call.specs.Told.{places_in}
+use Rattle.sa_loop.specs.States.{State, World, array_in}
+use Rattle.sa_loop.specs.Takes.{outcome_in}
+
+-- the writes to each descriptor, by its number
+abbrev pub Writes : Type 0
+Writes = List (ℕ × List Write)
+
+abbrev pub puts_told : Declared → View → Items → List Write
+puts_told decls out results = map (λ p. Put p.0 p.1) (zip (places_in decls out) (items_of results))
+
+-- the results are put at the places of the output, in order; without an output or results nothing is written
+abbrev pub writes_told : Declared → Option View → Option Items → Writes
+writes_told decls None results = []
+writes_told decls (Some out) None = []
+writes_told decls (Some out) (Some results) = (home_of decls out.array, puts_told decls out results) ∷ []
+
+abbrev pub writes_at : Writes → ℕ → List Write
+writes_at [] d = []
+writes_at (w ∷ ws) d = if w.0 == d then w.1 else writes_at ws d
+
+-- the number of an entry of a layout
+abbrev pub entry_at : Layout → Place → ℕ
+entry_at l p = first_entry l.lengths p.array + p.place
+
+-- a layout after writes, one after another
+abbrev pub layout_written : Layout → List Write → Layout
+layout_written l [] = l
+layout_written l (Put p item ∷ ws) = layout_written (put l (entry_at l p) (value_of item)) ws
+
+-- the put of an item at a place of a state
+abbrev pub put_item : State → Place → Item → State
+put_item s p item = record {
+  strings = slice_set s.strings p.array (slice_set (array_in s p.array) p.place (value_of item));
+  layout = put s.layout (entry_at s.layout p) (value_of item);
+}
+
+-- a state after writes, one after another
+abbrev pub written : State → List Write → State
+written s [] = s
+written s (Put p item ∷ ws) = written (put_item s p item) ws
+
+-- The effect of a call: its reply, and the world in which its results were put into the arrays and into the layout of its output's home, in order.
+abbrev pub reply_in : Declared → World → Call → Reply
+reply_in decls w call = (outcome_in decls w call).reply
+
+abbrev pub world_after : Declared → World → Call → World
+world_after decls w call = λ d. written (w d) (writes_at (writes_told decls call.out (outcome_in decls w call).results) d)

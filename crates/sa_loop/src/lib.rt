@@ -1,0 +1,33 @@
+//! One call on a world: what it takes of its descriptors, what comes of it, and what its results make of
+//! them; and a run's acts with the stores that they leave.
+//!
+//! The definitions are a list machine: a world gives each descriptor the items of its arrays and a
+//! layout. The program holds the layouts alone, in stores; that these show the machine's items, call by
+//! call, is proved here.
+#![tactic(auto)]
+
+mod act;
+mod gathered;
+mod gathering;
+mod laws;
+mod listed;
+mod opening;
+mod performing;
+mod picture;
+mod places;
+mod rereading;
+mod rooms;
+mod taking;
+mod writing;
+
+pub use act::{Act, WeightList};
+pub use gathered::Gathered;
+pub use laws::{calls_leave_rest, layouts_show_items, parts_tell_weights};
+pub use listed::Listed;
+pub use places::index_at_home;
+pub use rooms::Rooms;
+pub use taking::take;
+pub use writing::plan_results;
+
+#[cfg(test)]
+mod tests;

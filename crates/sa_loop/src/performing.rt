@@ -1,0 +1,110 @@
+ghost use Rattle.std.specs.Prelude.{◌≡◌, ◌<◌, [], ℕ, length, map, true, nat_lt, IfOk, OnOk, OnErr};
+ghost use Rattle.sa_alloc.specs.StoreValues.{StoreValue};
+ghost use Rattle.sa_call.specs.Decls.{IsDeclared};
+ghost use Rattle.sa_call.specs.Valid.{IsCall};
+ghost use Rattle.sa_loop.specs.Performs.{IsOneMore, CanPut, IsSoundAt};
+ghost use Rattle.sa_loop.specs.Runs.{shown, world_of, layout_in};
+ghost use Rattle.sa_loop.specs.Writes.{world_after, writes_told, writes_at, layout_written};
+
+use crate::act::Act;
+use crate::listed::Listed;
+use crate::opening::opening_stores;
+use crate::places::home_of;
+use crate::rooms::Rooms;
+use crate::taking::take;
+use crate::writing::put_results;
+use sa_alloc::Store;
+use sa_base::Memory;
+use sa_call::{Call, Decls, Items, Operands, View, evaluate};
+use sa_text::ValueList;
+use std::alloc::Global;
+
+impl Rooms for Vec<Store> {
+    ghost has = { λ stores d. nat_lt d (length stores.items) };
+
+    ghost layouts = { λ stores. layout_in stores.items };
+
+    fn store(&self, number: u8) -> &Store {
+        &self[number as usize]
+    }
+}
+
+impl<'s> Listed<'s> {
+    /// The opening world, with no acts and no marks.
+    pub fn new(alloc: Global, decls: &'s Decls) -> Result<Listed<'s>, Memory>
+        ensures decls { IfOk result (λ l. l.decls.now ≡ decls.now) }
+        ensures acts { IfOk result (λ l. l.acts.items ≡ []) }
+    {
+        let _ = decls.arrays();
+        let stores = opening_stores(alloc, decls)?;
+        Ok(Listed {
+            decls,
+            stores,
+            acts: Vec::new(alloc),
+        })
+    }
+
+    /// Performs one call under the declarations that the run was made with. All operands are read before
+    /// anything is written, and the results are put into the output in order; a refused call changes
+    /// nothing. After a want of memory all is as before.
+    pub fn perform(
+        &mut self,
+        alloc: Global,
+        decls: &'s Decls,
+        task: u32,
+        number: u32,
+        call: &'s Call,
+    ) -> Result<(), Memory>
+        requires decls { decls.now ≡ self.old.decls.now }
+        requires call { IsCall decls.now call.now }
+        ensures act { OnOk result (IsOneMore self.old.decls.now (layout_in self.old.stores.items) call.now task number self.old.acts.items self.new.acts.items) }
+        ensures world { OnOk result ((d : ℕ) → d < length self.old.decls.now.descrs → shown (layout_in self.new.stores.items d) ≡ world_after self.old.decls.now (world_of (layout_in self.old.stores.items)) call.now d) }
+        ensures decls { self.new.decls.now ≡ self.old.decls.now }
+        ensures kept_acts { OnErr result (self.new.acts.items ≡ self.old.acts.items) }
+        ensures kept_stores { OnErr result (map (λ (s : StoreValue). s.contents) self.new.stores.items ≡ map (λ (s : StoreValue). s.contents) self.old.stores.items) }
+    {
+        let own = self.decls;
+        let _declared = own.arrays();
+        self.acts.reserve(1)?;
+        let last = last_read(self.acts.as_slice());
+        let (read, weights) = take(alloc, own, &self.stores, call, last)?;
+        let outcome = evaluate(alloc, own, call, &read)?;
+        put_outcome(alloc, own, &mut self.stores, &call.out, &outcome.results)?;
+        self.acts
+            .push_reserved(Act::new(own, task, number, call, read, weights, outcome));
+        Ok(())
+    }
+}
+
+/// Puts a call's results, where it has some, into the store of its output's home.
+fn put_outcome(
+    alloc: Global,
+    decls: &Decls,
+    stores: &mut Vec<Store>,
+    out: &Option<View>,
+    results: &Option<Items>,
+) -> Result<(), Memory>
+    requires { CanPut decls.now (layout_in stores.old.items) (length stores.old.items) out.now results.now }
+    ensures sound { IsSoundAt decls.now (layout_in stores.old.items) out.now results.now }
+    ensures written { OnOk result ((d : ℕ) → layout_in stores.new.items d ≡ layout_written (layout_in stores.old.items d) (writes_at (writes_told decls.now out.now results.now) d)) }
+    ensures many { length stores.new.items ≡ length stores.old.items }
+    ensures kept { OnErr result (map (λ (s : StoreValue). s.contents) stores.new.items ≡ map (λ (s : StoreValue). s.contents) stores.old.items) }
+{
+    match (out, results) {
+        (Some(out), Some(results)) => {
+            let home = home_of(decls, out.array);
+            put_results(alloc, decls, &mut stores[home as usize], out, results)
+        }
+        _ => Ok(()),
+    }
+}
+
+/// The first list that the last act read; the next call may read the same one.
+fn last_read<'a>(acts: &'a [Act<'_>]) -> Option<&'a ValueList> {
+    match acts.last()?.operands() {
+        Operands::Items(lists) => match lists.get(0)? {
+            Items::Values(list) => Some(list),
+        },
+        _ => None,
+    }
+}

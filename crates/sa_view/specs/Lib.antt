@@ -1,0 +1,4 @@
+pub mod Broadcasts
+pub mod Laws
+pub mod Slices
+pub mod Views

@@ -1,8 +1,0 @@
-use Rattle.std.proofs.Common.{◌≡◌, map, take}
-use Rattle.std.specs.List.{filter}
-use Rattle.sa_script.specs.declared.decls.ArrayDecl.{ArrayDecl}
-use Rattle.strarr.specs.Worlds.{is_at}
-use Rattle.strarr.proofs.stores.lengths_of.Given as goal
-
-abbrev pub invariant-loop-array : goal.invariant-loop-array
-invariant-loop-array l = l.lengths.items ≡ map (λ (a : ArrayDecl). a.len) (filter (is_at l.home) (take l.array-index l.array-items))
