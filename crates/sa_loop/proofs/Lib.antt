@@ -8,6 +8,7 @@ pub mod WeighLemmas
 pub mod WorldLemmas
 pub mod ViewLemmas
 pub mod HeldLemmas
+pub mod LastLemmas
 pub mod RunLemmas
 pub mod ResultLemmas
 pub mod SameLemmas

@@ -4,7 +4,7 @@ use Rattle.std.specs.List.{AllByRecursion, range_with_len, list_any}
 use Rattle.std.proofs.lemmas.Bool.{eqb-true, ltb-true, lt-ltb}
 use Rattle.std.proofs.lemmas.List.{map-append}
 use Rattle.std.proofs.lemmas.Simd.{map-map}
-use Rattle.sa_alloc.specs.Layouts.{Layout}
+use Rattle.sa_alloc.specs.Layouts.{Layout, opening_layout}
 use Rattle.sa_alloc.specs.StoreValues.{Contents, StoreValue}
 use Rattle.sa_view.specs.declared.view.View.{View}
 use Rattle.sa_plain.specs.declared.items.Items.{Items}
@@ -17,22 +17,25 @@ use Rattle.sa_call.specs.Decides.{decide}
 use Rattle.sa_call.specs.Decls.{Declared, IsDeclared, home_of}
 use Rattle.sa_call.specs.Parts.{Parts}
 use Rattle.sa_call.specs.Forms.{descr_of}
-use Rattle.sa_call.specs.Told.{is_named, is_number, operand_is_at, output_is_at}
+use Rattle.sa_call.specs.Told.{index_at_home, is_named, is_number, operand_is_at, output_is_at}
 use Rattle.sa_call.specs.Valid.{IsCall, is_descr_of, is_output_of}
 use Rattle.sa_call.proofs.PartLemmas.{any-declared}
 use Rattle.sa_loop.specs.declared.act.Act.{Act}
 use Rattle.sa_loop.specs.Held.{CanTake, HasShape}
+use Rattle.sa_loop.specs.declared.last_read.LastRead.{LastRead}
+use Rattle.sa_loop.specs.LastReads.{AreKnown, unknown_output}
 use Rattle.sa_loop.specs.Performs.{CanPut, IsSoundAt}
 use Rattle.sa_loop.specs.Plays.{outcomes_from, play_replies, play_world}
 use Rattle.sa_loop.specs.Runs.{layout_in, shown, world_of}
-use Rattle.sa_loop.specs.States.{opening, lengths_of}
+use Rattle.sa_loop.specs.States.{array_in, opening, lengths_of}
 use Rattle.sa_loop.specs.Takes.{outcome_in}
 use Rattle.sa_loop.specs.Writes.{layout_written, world_after, writes_at, writes_told, written}
 use Rattle.sa_loop.proofs.GatheredLemmas.{as-many}
 use Rattle.sa_loop.proofs.ResultLemmas.{results-many}
 use Rattle.sa_loop.proofs.RunLemmas.{world-more, outcomes-more, after-writes, IsAfter}
 use Rattle.sa_loop.proofs.SameLemmas.{Agree, outcome-same, layout-at, layouts-from}
-use Rattle.sa_loop.proofs.WorldLemmas.{view-known}
+use Rattle.sa_loop.proofs.LastLemmas.{known-kept}
+use Rattle.sa_loop.proofs.WorldLemmas.{leaves-rest, view-known}
 
 -- what a run's stores are after the calls so far
 pub record IsRun (decls : Declared) (stores : List StoreValue) (calls : List Call) : Type 0 where
@@ -167,6 +170,22 @@ run-kept decls stores stores' calls same is = record {
   sized = of-contents (λ (l : Layout). length l.states) stores stores' same ∙ is.sized;
   left = of-contents shown stores stores' same ∙ is.left;
 }
+
+-- what is known of the arrays is known where the stores have the same contents
+pub known-same : (decls : Declared) (stores stores' : List StoreValue) (lasts : List (Option LastRead)) → map (λ (s : StoreValue). s.contents) stores' ≡ map (λ (s : StoreValue). s.contents) stores → AreKnown decls (world_of (layout_in stores)) lasts → AreKnown decls (world_of (layout_in stores')) lasts
+known-same decls stores stores' lasts same known =
+    known-kept decls (world_of (layout_in stores)) (world_of (layout_in stores')) lasts None known
+    (λ array below other. ap (λ (ls : List Layout). array_in (shown (get_or ls (home_of decls array) (opening_layout []))) (index_at_home decls array)) (of-contents (λ (l : Layout). l) stores stores' same))
+
+-- and after one call more, but for its output
+pub known-next : (decls : Declared) (stores stores' : List StoreValue) (calls : List Call) (call : Call) (outcome : Outcome) (lasts : List (Option LastRead)) → IsDeclared decls → IsCall decls call → IsNext decls stores stores' calls call outcome
+    → AreKnown decls (world_of (layout_in stores)) lasts → AreKnown decls (world_of (layout_in stores')) (unknown_output call.out lasts)
+known-next decls stores stores' calls call outcome lasts declared valid is known =
+    let w = world_of (layout_in stores) in
+    known-kept decls w (world_of (layout_in stores')) lasts call.out known
+    (λ array below other.
+    ap (λ s. array_in s (index_at_home decls array)) (is.shows (home_of decls array) (home-declared decls array declared below))
+    ∙ (leaves-rest decls w call valid).arrays array below other)
 
 -- acts under the same declarations with one more
 pub alike-more : (decls : Declared) (acts : List Act) (act : Act) → map (λ (a : Act). a.decls.now) acts ≡ replicate (length acts) decls → act.decls.now ≡ decls → map (λ (a : Act). a.decls.now) (acts ++ act ∷ []) ≡ replicate (length (acts ++ act ∷ [])) decls

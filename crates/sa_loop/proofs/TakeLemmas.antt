@@ -28,14 +28,15 @@ use Rattle.sa_call.specs.declared.operands.Operands.{Operands}
 use Rattle.sa_call.specs.declared.operands.Operands.TheVariants as operands
 use Rattle.sa_call.specs.Decls.{Declared, IsDeclared, home_of}
 use Rattle.sa_call.specs.Forms.{entry, descr_of}
-use Rattle.sa_call.specs.Parts.{Parts, literal_weight, picture_weight}
-use Rattle.sa_call.specs.Told.{homes_of, is_named, is_number, items_told, operand_is_at, output_is_at, places_in, places_told, view_counts, weighed_by, weighed_parts}
+use Rattle.sa_call.specs.Parts.{Parts, literal_weight, part_weight, picture_weight, weight_read}
+use Rattle.sa_call.specs.Told.{homes_of, is_named, is_number, items_told, operand_is_at, output_is_at, parts_told, places_in, places_told, view_counts, weighed_by, weighed_parts}
 use Rattle.sa_call.specs.Valid.{IsCall, IsLiteralOperand, are_of, is_descr_of, is_operand_of, is_view_of, output_stands}
-use Rattle.sa_call.proofs.PartLemmas.{count-once}
+use Rattle.sa_call.proofs.PartLemmas.{count-once, sum_by-map}
 use Rattle.sa_loop.specs.Held.{AreHeld, AreShort, CanTake, HasShape, IsShort, IsTaken, IsTakenWhole}
 use Rattle.sa_loop.specs.Runs.{world_of}
 use Rattle.sa_loop.specs.States.{State, World, view_values}
-use Rattle.sa_loop.specs.Takes.{call_weight, is_heavy, items_taken, part, part_by, views_read, weight, weight_by, weights_in}
+use Rattle.sa_loop.specs.Takes.{call_weight, is_heavy, items_taken, part, part_by, parts_of, views_read, weight, weight_by, weights_in}
+use Rattle.sa_loop.proofs.PartLemmas.{parts-tell}
 use Rattle.sa_loop.proofs.SlotLemmas.{small-lengths}
 use Rattle.sa_loop.proofs.WorldLemmas.{view-known}
 
@@ -158,6 +159,20 @@ reads-same decls w call ds same = ap (λ (f : ℕ → Part). each f ds) (λ i d.
 weight-all : (decls : Declared) (w : World) (call : Call) → sum (weights_in decls w call) + sum_by literal_weight call.operands ≡ call_weight decls w call
 weight-all decls w call = ap (λ n. n + sum_by literal_weight call.operands) (sum-map (λ d. weight decls (w d) call d) (homes_of decls call))
 
+-- what is taken of a world weighs what its call weighs there
+parts-weigh : (decls : Declared) (w : World) (call : Call) → weight_read call (parts_of decls w call) ≡ call_weight decls w call
+parts-weigh decls w call =
+    let one : ℕ → ℕ × Part = λ d. (d, part decls (w d) call (is_heavy decls w call) d) in
+    ap (λ n. n + sum_by literal_weight call.operands)
+    (sum_by-map (λ (p : ℕ × Part). part_weight p.1) one (homes_of decls call)
+    ∙ ap (λ (f : ℕ → ℕ). sum_by f (homes_of decls call)) (λ i d. parts-tell decls (w d) call (is_heavy decls w call) d i))
+
+-- so parts that were told of a call that is not too heavy weigh no more than a call may
+told-light : (decls : Declared) (w : World) (call : Call) (parts : Parts) → parts ≡ parts_of decls w call → call_weight decls w call ≤ 1048576 → weight_read call parts ≤ 1048576
+told-light decls w call parts are light =
+    let weighs = ap (weight_read call) are ∙ parts-weigh decls w call in
+    omega arith
+
 -- what weighs too much is taken as its weights
 pub taken-heavy : (decls : Declared) (layouts : ℕ → Layout) (call : Call) (weights : List ℕ) (total : ℕ) → ((entry call.op).gives ≡ gives.Statistics → ⊥) → weights ≡ weights_in decls (world_of layouts) call
     → sum weights + sum_by literal_weight call.operands ≡ total → 1048576 < total → IsTaken decls layouts call (operands.Big total) weights
@@ -183,13 +198,14 @@ taken-light decls layouts call weights total lists none same are sums light read
     let homes = homes_of decls call in
     let all : call_weight decls w call ≡ total = sym (weight-all decls w call) ∙ ap (λ (ws : List ℕ). sum ws + sum_by literal_weight call.operands) (sym are) ∙ sums in
     let under : is_heavy decls w call ≡ false = le-ltb 1048576 (call_weight decls w call) (omega arith) in
+    let parts : parts_told decls call (operands.Items lists) none ≡ parts_of decls w call =
+    ap (λ (ls : List Items). each (λ d. Read (items_told decls d call.operands ls)) homes) read
+    ∙ reads-same decls w call homes same
+    ∙ ap (λ (b : Bool). each (λ d. part decls (w d) call b d) homes) (sym under) in
     record {
       are_operands = (same, ap (map count_of) read ∙ counts-read decls w call.operands);
-      are_weights = tt;
-      parts =
-          ap (λ (ls : List Items). each (λ d. Read (items_told decls d call.operands ls)) homes) read
-          ∙ reads-same decls w call homes same
-          ∙ ap (λ (b : Bool). each (λ d. part decls (w d) call b d) homes) (sym under);
+      are_weights = told-light decls w call (parts_told decls call (operands.Items lists) none) parts (omega arith);
+      parts = parts;
     }
 
 -- a call on a whole descriptor
@@ -266,13 +282,17 @@ taken-whole decls held layouts call number l (operands.Items lists) weights can 
 taken-whole decls held layouts call number l (operands.Stats stats) weights can is at whole =
     let w = world_of layouts in
     let one = home-alone decls call number can.valid is in
+    let heavy = is_heavy decls w call in
+    let counted = part-counted (entry call.op).gives decls (w number) call heavy number whole.0 in
+    let nothing : call_weight decls w call ≡ 0 = weight-alone decls w call number can.valid is ∙ sym (parts-tell decls (w number) call heavy number) ∙ ap part_weight counted in
+    let parts : parts_told decls call (operands.Stats stats) weights ≡ parts_of decls w call =
+    ap (λ ds. each (λ d. Counted stats) ds) one.0
+    ∙ ap (λ (p : Part). (number, p) ∷ []) (ap (λ x. Counted x) (whole.1 ∙ ap stats_of at) ∙ sym counted)
+    ∙ sym (ap (λ ds. each (λ d. part decls (w d) call heavy d) ds) one.0) in
     record {
       are_operands = whole.0;
-      are_weights = tt;
-      parts =
-          ap (λ ds. each (λ d. Counted stats) ds) one.0
-          ∙ ap (λ (p : Part). (number, p) ∷ []) (ap (λ x. Counted x) (whole.1 ∙ ap stats_of at) ∙ sym (part-counted (entry call.op).gives decls (w number) call (is_heavy decls w call) number whole.0))
-          ∙ sym (ap (λ ds. each (λ d. part decls (w d) call (is_heavy decls w call) d) ds) one.0);
+      are_weights = told-light decls w call (parts_told decls call (operands.Stats stats) weights) parts (omega arith);
+      parts = parts;
     }
 taken-whole decls held layouts call number l (operands.Picture p) weights can is at whole =
     let w = world_of layouts in
@@ -284,16 +304,17 @@ taken-whole decls held layouts call number l (operands.Picture p) weights can is
     let all = weight-alone decls w call number can.valid is ∙ pictured.1 in
     let under : is_heavy decls w call ≡ false = le-ltb 1048576 (call_weight decls w call) (omega arith) in
     let long = few-entries decls number (layouts number) can.declared (can.shapes number (named-whole decls call number is)) in
+    let parts : parts_told decls call (operands.Picture p) weights ≡ parts_of decls w call =
+    ap (λ ds. each (λ d. Pictured p.entries p.arena) ds) one.0
+    ∙ ap (λ es. (number, Pictured es p.arena) ∷ []) entries
+    ∙ ap (λ bs. (number, Pictured (entry_images (layouts number)) bs) ∷ []) arena
+    ∙ ap (λ (q : Part). (number, q) ∷ []) (sym pictured.0)
+    ∙ sym (ap (λ ds. each (λ d. part decls (w d) call false d) ds) one.0)
+    ∙ ap (λ (b : Bool). each (λ d. part decls (w d) call b d) (homes_of decls call)) (sym under) in
     record {
       are_operands = (whole.0, (let same = ap length entries in omega arith));
-      are_weights = tt;
-      parts =
-          ap (λ ds. each (λ d. Pictured p.entries p.arena) ds) one.0
-          ∙ ap (λ es. (number, Pictured es p.arena) ∷ []) entries
-          ∙ ap (λ bs. (number, Pictured (entry_images (layouts number)) bs) ∷ []) arena
-          ∙ ap (λ (q : Part). (number, q) ∷ []) (sym pictured.0)
-          ∙ sym (ap (λ ds. each (λ d. part decls (w d) call false d) ds) one.0)
-          ∙ ap (λ (b : Bool). each (λ d. part decls (w d) call b d) (homes_of decls call)) (sym under);
+      are_weights = told-light decls w call (parts_told decls call (operands.Picture p) weights) parts (omega arith);
+      parts = parts;
     }
 taken-whole decls held layouts call number l (operands.Big total) weights can is at whole =
     let w = world_of layouts in

@@ -2,6 +2,7 @@ pub use Rattle.sa_base.specs.Deeds
 pub mod Gathers
 pub mod Held
 pub mod Histories
+pub mod LastReads
 pub mod Laws
 pub mod Performs
 pub mod Plays

@@ -10,8 +10,8 @@ pub type WeightList = Sequence<u64>;
 
 /// A call that took effect: which one it is, what it read, and what came of it. Where it was too heavy to
 /// read, it has the weight of what it would have read of each of its descriptors. Every act keeps that
-/// its outcome is the definition's for what it read, and that the weights of a call that was too heavy say
-/// so.
+/// its outcome is the definition's for what it read, that what was read weighs no more than a call may,
+/// and that the weights of a call that was not read say that it weighs more.
 #[derive(Debug, Drop)]
 pub struct Act<'s> {
     decls: &'s Decls,

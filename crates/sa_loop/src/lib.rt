@@ -9,19 +9,20 @@
 mod act;
 mod gathered;
 mod gathering;
+mod last_read;
 mod laws;
 mod listed;
 mod opening;
 mod performing;
 mod picture;
 mod places;
-mod rereading;
 mod rooms;
 mod taking;
 mod writing;
 
 pub use act::{Act, WeightList};
 pub use gathered::Gathered;
+pub use last_read::{LastRead, LastReads};
 pub use laws::{calls_leave_rest, layouts_show_items, parts_tell_weights};
 pub use listed::Listed;
 pub use places::index_at_home;

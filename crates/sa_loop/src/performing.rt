@@ -1,12 +1,14 @@
-ghost use Rattle.std.specs.Prelude.{◌≡◌, ◌<◌, [], ℕ, length, map, true, nat_lt, IfOk, OnOk, OnErr};
+ghost use Rattle.std.specs.Prelude.{◌≡◌, ◌<◌, [], ℕ, length, map, replicate, true, nat_lt, None, IfOk, OnOk, OnErr};
 ghost use Rattle.sa_alloc.specs.StoreValues.{StoreValue};
 ghost use Rattle.sa_call.specs.Decls.{IsDeclared};
 ghost use Rattle.sa_call.specs.Valid.{IsCall};
+ghost use Rattle.sa_loop.specs.LastReads.{unknown_output};
 ghost use Rattle.sa_loop.specs.Performs.{IsOneMore, CanPut, IsSoundAt};
 ghost use Rattle.sa_loop.specs.Runs.{shown, world_of, layout_in};
 ghost use Rattle.sa_loop.specs.Writes.{world_after, writes_told, writes_at, layout_written};
 
 use crate::act::Act;
+use crate::last_read::{LastReads, place};
 use crate::listed::Listed;
 use crate::opening::opening_stores;
 use crate::places::home_of;
@@ -15,8 +17,7 @@ use crate::taking::take;
 use crate::writing::put_results;
 use sa_alloc::Store;
 use sa_base::Memory;
-use sa_call::{Call, Decls, Items, Operands, View, evaluate};
-use sa_text::ValueList;
+use sa_call::{Call, Decls, Items, View, evaluate};
 use std::alloc::Global;
 
 impl Rooms for Vec<Store> {
@@ -41,6 +42,7 @@ impl<'s> Listed<'s> {
             decls,
             stores,
             acts: Vec::new(alloc),
+            lasts: unread(alloc, decls.arrays().len())?,
         })
     }
 
@@ -66,10 +68,10 @@ impl<'s> Listed<'s> {
         let own = self.decls;
         let _declared = own.arrays();
         self.acts.reserve(1)?;
-        let last = last_read(self.acts.as_slice());
-        let (read, weights) = take(alloc, own, &self.stores, call, last)?;
+        let (read, weights) = take(alloc, own, &self.stores, call, &mut self.lasts)?;
         let outcome = evaluate(alloc, own, call, &read)?;
         put_outcome(alloc, own, &mut self.stores, &call.out, &outcome.results)?;
+        forget_output(&mut self.lasts, &call.out);
         self.acts
             .push_reserved(Act::new(own, task, number, call, read, weights, outcome));
         Ok(())
@@ -99,12 +101,22 @@ fn put_outcome(
     }
 }
 
-/// The first list that the last act read; the next call may read the same one.
-fn last_read<'a>(acts: &'a [Act<'_>]) -> Option<&'a ValueList> {
-    match acts.last()?.operands() {
-        Operands::Items(lists) => match lists.get(0)? {
-            Items::Values(list) => Some(list),
-        },
-        _ => None,
+/// Of so many arrays nothing was read.
+fn unread(alloc: Global, arrays: usize) -> Result<LastReads, Memory>
+    ensures { IfOk result (λ lasts. lasts.items ≡ replicate arrays None) }
+{
+    let mut lasts = Vec::with_capacity(alloc, arrays)?;
+    for _k in 0..arrays {
+        lasts.push(None)?;
+    }
+    Ok(lasts)
+}
+
+/// Forgets what was read of the array of an output.
+fn forget_output(lasts: &mut LastReads, out: &Option<View>)
+    ensures { lasts.new.items ≡ unknown_output out.now lasts.old.items }
+{
+    if let Some(out) = out {
+        place(lasts, out.array, None);
     }
 }

@@ -1,16 +1,18 @@
 ghost use Rattle.std.specs.Prelude.{ℕ, ◌≡◌, ◌+◌, ◌*◌, ◌≤◌, ◌<◌, ◌^◌, length, sum, sum_by, IfOk, None};
 ghost use Rattle.sa_text.specs.Values.{weight_of};
+ghost use Rattle.sa_call.specs.Decls.{home_of};
 ghost use Rattle.sa_call.specs.Forms.{descr_of};
 ghost use Rattle.sa_call.specs.Parts.{literal_weight};
-ghost use Rattle.sa_loop.specs.Held.{CanTake, IsViewIn, AreHeld, AreShort, IsTaken};
+ghost use Rattle.sa_loop.specs.Held.{CanTake, IsViewIn, IsHeldView, AreHeld, AreShort, IsTaken};
+ghost use Rattle.sa_loop.specs.LastReads.{AreKnown};
 ghost use Rattle.sa_loop.specs.Runs.{shown, world_of};
 ghost use Rattle.sa_loop.specs.States.{view_values};
 ghost use Rattle.sa_loop.specs.Takes.{weight_taken, weights_in, views_read};
 
 use crate::act::WeightList;
+use crate::last_read::{LastRead, LastReads, last_list, place};
 use crate::picture::take_whole;
 use crate::places::{home_of, index_at_home, is_named, places};
-use crate::rereading::holds;
 use crate::rooms::Rooms;
 use sa_alloc::Store;
 use sa_base::Memory;
@@ -18,20 +20,22 @@ use sa_call::{Call, Decls, Items, ItemsList, MOST_WEIGHT, Operand, Operands, Val
 use std::alloc::Global;
 
 /// Reads what a call takes of its descriptors. All is weighed first, by the slots alone; what weighs too
-/// much is not read, and the answer then has its weights, a number for each of the descriptors. Where a
-/// view has the items of the list `last`, that list is shared and none of them is copied.
+/// much is not read, and the answer then has its weights, a number for each of the descriptors. A view
+/// that is the last that was read of its array is not read again: its list is shared.
 pub fn take<R: Rooms>(
     alloc: Global,
     decls: &Decls,
     rooms: &R,
     call: &Call,
-    last: Option<&ValueList>,
+    lasts: &mut LastReads,
 ) -> Result<(Operands, WeightList), Memory>
-    requires { CanTake decls.now (R.has rooms.now) (R.layouts rooms.now) call.now }
-    ensures { IfOk result (λ t. IsTaken decls.now (R.layouts rooms.now) call.now t.0 t.1) }
+    requires can { CanTake decls.now (R.has rooms.now) (R.layouts rooms.now) call.now }
+    requires known { AreKnown decls.now (world_of (R.layouts rooms.now)) lasts.old.items }
+    ensures taken { IfOk result (λ t. IsTaken decls.now (R.layouts rooms.now) call.now t.0 t.1) }
+    ensures known { AreKnown decls.now (world_of (R.layouts rooms.now)) lasts.new.items }
 {
     match call.op.descr() {
-        None => take_items(alloc, decls, rooms, call, last),
+        None => take_items(alloc, decls, rooms, call, lasts),
         Some(number) => take_whole(alloc, rooms.store(number), call.op),
     }
 }
@@ -42,19 +46,21 @@ fn take_items<R: Rooms>(
     decls: &Decls,
     rooms: &R,
     call: &Call,
-    last: Option<&ValueList>,
+    lasts: &mut LastReads,
 ) -> Result<(Operands, WeightList), Memory>
     requires can { CanTake decls.now (R.has rooms.now) (R.layouts rooms.now) call.now }
     requires items { descr_of call.now.op ≡ None }
-    ensures { IfOk result (λ t. IsTaken decls.now (R.layouts rooms.now) call.now t.0 t.1) }
+    requires known { AreKnown decls.now (world_of (R.layouts rooms.now)) lasts.old.items }
+    ensures taken { IfOk result (λ t. IsTaken decls.now (R.layouts rooms.now) call.now t.0 t.1) }
+    ensures known { AreKnown decls.now (world_of (R.layouts rooms.now)) lasts.new.items }
 {
     let operands = call.operands.as_slice();
-    let (weights, read_weight) = weights(alloc, decls, rooms, call)?;
+    let (weights, read_weight) = weights(alloc, decls, rooms, call, lasts.as_slice())?;
     let weight = read_weight + literals_weight(operands);
     if weight > MOST_WEIGHT {
         return Ok((Operands::Big(weight), weights));
     }
-    let lists = views(alloc, decls, rooms, operands, last)?;
+    let lists = views(alloc, decls, rooms, operands, lasts)?;
     Ok((Operands::Items(lists), WeightList::new(alloc)))
 }
 
@@ -64,9 +70,11 @@ fn weights<R: Rooms>(
     decls: &Decls,
     rooms: &R,
     call: &Call,
+    lasts: &[Option<LastRead>],
 ) -> Result<(WeightList, u64), Memory>
     requires can { CanTake decls.now (R.has rooms.now) (R.layouts rooms.now) call.now }
     requires items { descr_of call.now.op ≡ None }
+    requires known { AreKnown decls.now (world_of (R.layouts rooms.now)) lasts.now }
     ensures weights { IfOk result (λ r. r.0 ≡ weights_in decls.now (world_of (R.layouts rooms.now)) call.now) }
     ensures sum { IfOk result (λ r. r.1 ≡ sum r.0) }
     ensures most { IfOk result (λ r. r.1 < 2 ^ 40) }
@@ -75,7 +83,8 @@ fn weights<R: Rooms>(
     let mut together = 0u64;
     for number in 0..decls.descrs().len() {
         if is_named(decls, call, number as u8) {
-            let weight = weight_at(alloc, decls, rooms, call.operands.as_slice(), number as u8)?;
+            let operands = call.operands.as_slice();
+            let weight = weight_at(alloc, decls, rooms, operands, number as u8, lasts)?;
             together += weight;
             weights.push(weight)?;
         }
@@ -90,9 +99,11 @@ fn weight_at<R: Rooms>(
     rooms: &R,
     operands: &[Operand],
     number: u8,
+    lasts: &[Option<LastRead>],
 ) -> Result<u64, Memory>
     requires held { AreHeld decls.now (R.has rooms.now) (R.layouts rooms.now) operands.now }
     requires few { length operands.now ≤ 8 }
+    requires known { AreKnown decls.now (world_of (R.layouts rooms.now)) lasts.now }
     ensures weight { IfOk result (λ w. w ≡ weight_taken decls.now (shown (R.layouts rooms.now number)) number operands.now) }
     ensures most { IfOk result (λ w. w ≤ 65552 * 8192 * length operands.now) }
 {
@@ -101,7 +112,7 @@ fn weight_at<R: Rooms>(
         match operand {
             Operand::View(view) => {
                 if home_of(decls, view.array) == number {
-                    weight += view_weight(alloc, decls, rooms.store(number), view)?;
+                    weight += view_weight(alloc, decls, rooms, view, lasts)?;
                 }
             }
             Operand::Literal(_) => {}
@@ -110,8 +121,27 @@ fn weight_at<R: Rooms>(
     Ok(weight)
 }
 
-/// What the items of a view weigh, whose home's store this is. None of them is read.
-fn view_weight(alloc: Global, decls: &Decls, store: &Store, view: &View) -> Result<u64, Memory>
+/// What the items of a view weigh. None of them is read.
+fn view_weight<R: Rooms>(
+    alloc: Global,
+    decls: &Decls,
+    rooms: &R,
+    view: &View,
+    lasts: &[Option<LastRead>],
+) -> Result<u64, Memory>
+    requires held { IsHeldView decls.now (R.has rooms.now) (R.layouts rooms.now) view.now }
+    requires known { AreKnown decls.now (world_of (R.layouts rooms.now)) lasts.now }
+    ensures weight { IfOk result (λ w. w ≡ weight_of (view_values decls.now (shown (R.layouts rooms.now (home_of decls.now view.now.array))) view.now)) }
+    ensures most { IfOk result (λ w. w ≤ 65552 * 8192) }
+{
+    match last_list(lasts, view) {
+        Some(list) => Ok(list.weight()),
+        None => weight_in(alloc, decls, rooms.store(home_of(decls, view.array)), view),
+    }
+}
+
+/// What the items of a view weigh by their slots, whose home's store this is.
+fn weight_in(alloc: Global, decls: &Decls, store: &Store, view: &View) -> Result<u64, Memory>
     requires { IsViewIn decls.now view.now store.now.contents.layout }
     ensures weight { IfOk result (λ w. w ≡ weight_of (view_values decls.now (shown store.now.contents.layout) view.now)) }
     ensures most { IfOk result (λ w. w ≤ 65552 * 8192) }
@@ -143,17 +173,19 @@ fn views<R: Rooms>(
     decls: &Decls,
     rooms: &R,
     operands: &[Operand],
-    last: Option<&ValueList>,
+    lasts: &mut LastReads,
 ) -> Result<ItemsList, Memory>
-    requires { AreHeld decls.now (R.has rooms.now) (R.layouts rooms.now) operands.now }
-    ensures { IfOk result (λ lists. lists ≡ views_read decls.now (world_of (R.layouts rooms.now)) operands.now) }
+    requires held { AreHeld decls.now (R.has rooms.now) (R.layouts rooms.now) operands.now }
+    requires known { AreKnown decls.now (world_of (R.layouts rooms.now)) lasts.old.items }
+    ensures lists { IfOk result (λ lists. lists ≡ views_read decls.now (world_of (R.layouts rooms.now)) operands.now) }
+    ensures known { AreKnown decls.now (world_of (R.layouts rooms.now)) lasts.new.items }
 {
     let mut lists = ItemsList::new(alloc);
     for operand in operands {
         match operand {
             Operand::View(view) => {
-                let store = rooms.store(home_of(decls, view.array));
-                lists.push(view_items(alloc, decls, store, view, last)?)?;
+                let list = view_list(alloc, decls, rooms, view, lasts)?;
+                lists.push(Items::Values(list))?;
             }
             Operand::Literal(_) => {}
         }
@@ -161,29 +193,44 @@ fn views<R: Rooms>(
     Ok(lists)
 }
 
-/// The items of a view, whose home's store this is: copied once, and shared from then on; where they are
-/// those of the list `last`, that list.
-fn view_items(
+/// The items of a view: those that were last read of its array, or read now and known from then on.
+fn view_list<R: Rooms>(
     alloc: Global,
     decls: &Decls,
-    store: &Store,
+    rooms: &R,
     view: &View,
-    last: Option<&ValueList>,
-) -> Result<Items, Memory>
-    requires { IsViewIn decls.now view.now store.now.contents.layout }
-    ensures { IfOk result (λ items. items ≡ Items.Values (view_values decls.now (shown store.now.contents.layout) view.now)) }
+    lasts: &mut LastReads,
+) -> Result<ValueList, Memory>
+    requires held { IsHeldView decls.now (R.has rooms.now) (R.layouts rooms.now) view.now }
+    requires known { AreKnown decls.now (world_of (R.layouts rooms.now)) lasts.old.items }
+    ensures list { IfOk result (λ list. list ≡ view_values decls.now (shown (R.layouts rooms.now (home_of decls.now view.now.array))) view.now) }
+    ensures known { AreKnown decls.now (world_of (R.layouts rooms.now)) lasts.new.items }
 {
-    let numbers = places(alloc, view)?;
-    let places = numbers.as_slice();
-    let index = index_at_home(decls, view.array);
-    if let Some(list) = last {
-        if holds(store, index, places, list) {
-            let shared = list.copy(alloc)?;
-            return Ok(Items::Values(shared));
-        }
+    if let Some(list) = last_list(lasts.as_slice(), view) {
+        return list.copy(alloc);
     }
-    let values = store.values(alloc, index, places)?;
+    let list = list_in(alloc, decls, rooms.store(home_of(decls, view.array)), view)?;
+    let copy = list.copy(alloc)?;
+    place(
+        lasts,
+        view.array,
+        Some(LastRead {
+            view: *view,
+            list: copy,
+        }),
+    );
+    Ok(list)
+}
+
+/// The items of a view, whose home's store this is: copied once, and shared from then on.
+fn list_in(alloc: Global, decls: &Decls, store: &Store, view: &View) -> Result<ValueList, Memory>
+    requires { IsViewIn decls.now view.now store.now.contents.layout }
+    ensures { IfOk result (λ list. list ≡ view_values decls.now (shown store.now.contents.layout) view.now) }
+{
+    let places = places(alloc, view)?;
+    let index = index_at_home(decls, view.array);
+    let values = store.values(alloc, index, places.as_slice())?;
     let mut list = ValueList::from_vec(values);
     list.share(alloc)?;
-    Ok(Items::Values(list))
+    Ok(list)
 }

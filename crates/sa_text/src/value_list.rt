@@ -1,6 +1,7 @@
 ghost use Rattle.std.specs.Prelude.{◌≡◌, ◌++◌, ◌∷◌, ◌==◌, ◌*◌, ◌≤◌, [], length, slice_get, IfOk, IfErr, OnOk, OnErr};
 ghost use Rattle.std.specs.Option.{option_copied};
 ghost use Rattle.sa_text.specs.Values.{stretched, weight_of};
+ghost use Rattle.sa_text.specs.Lists.{IsWeight};
 
 use crate::stretched::{stretched_at, stretched_len};
 use crate::value::Value;
@@ -11,13 +12,18 @@ use std::marker::Model;
 use std::mem;
 use std::sync::Arc;
 
-/// Where the values of a list stand: in a vector of the list's own, or in one that copies share. Of a
-/// shared vector with one value the list may have this value many times.
+/// The most values whose weight is kept.
+const MOST_WEIGHED: usize = 8192;
+
+/// Where the values of a list stand: in a vector of the list's own, or in one that copies share, whose
+/// weight is kept where they are few. Of a shared vector with one value the list may have this value many
+/// times.
 #[derive(Debug, Drop)]
 pub(crate) enum Held {
     Own(Vec<Value>),
     Shared {
         count: usize,
+        weight: Option<u64>,
         values: Arc<Vec<Value>>,
     },
 }
@@ -35,9 +41,11 @@ impl Model for ValueList {
 
     ghost Value = { List OneValue };
 
-    ghost use Rattle.sa_text.specs.Lists.{values_held};
+    ghost use Rattle.sa_text.specs.Lists.{values_held, IsWeighed};
 
     ghost view = { λ l. values_held l.held };
+
+    ghost invariant = { λ l. IsWeighed l.held };
 }
 
 impl ValueList {
@@ -99,14 +107,30 @@ impl ValueList {
 
     /// Puts a value at the end. Where there is no memory the list is as before and the value comes back.
     /// A list whose values are shared is first copied.
+    #[inline(always)]
     pub fn push(&mut self, value: Value) -> Result<(), (Memory, Value)>
         ensures ok { OnOk result (self.new ≡ self.old ++ value ∷ []) }
         ensures err { OnErr result (self.new ≡ self.old) }
         ensures returned { IfErr result (λ e. e.1 ≡ value) }
     {
-        let copied = match &mut self.held {
-            Held::Own(values) => return values.push(value).map_err(|e| (Memory, e.value)),
-            Held::Shared { count, values } => {
+        if let Held::Own(values) = &mut self.held {
+            return values.push(value).map_err(|e| (Memory, e.value));
+        }
+        self.push_behind_copies(value)
+    }
+
+    /// Copies the values, with one more behind them. Where there is no memory the list is as before and
+    /// the value comes back.
+    fn push_behind_copies(&mut self, value: Value) -> Result<(), (Memory, Value)>
+        ensures ok { OnOk result (self.new ≡ self.old ++ value ∷ []) }
+        ensures err { OnErr result (self.new ≡ self.old) }
+        ensures returned { IfErr result (λ e. e.1 ≡ value) }
+    {
+        let copied = match &self.held {
+            Held::Own(values) => {
+                copies_with_room(*values.allocator(), values.len(), values.as_slice())
+            }
+            Held::Shared { count, values, .. } => {
                 copies_with_room(*values.allocator(), *count, values.as_slice())
             }
         };
@@ -120,7 +144,8 @@ impl ValueList {
         Ok(())
     }
 
-    /// Lets copies share the values from now on. Nothing changes, also after a want of memory.
+    /// Lets copies share the values from now on, and weighs them where they are at most 8,192. Nothing
+    /// changes, also after a want of memory.
     pub fn share(&mut self, alloc: Global) -> Result<(), Memory>
         ensures { self.new ≡ self.old }
     {
@@ -131,9 +156,14 @@ impl ValueList {
             return Ok(());
         }
         let count = values.len();
+        let weight = few_weight(count, values.as_slice());
         match Arc::new(alloc, mem::replace(values, Vec::new(alloc))) {
             Ok(values) => {
-                self.held = Held::Shared { count, values };
+                self.held = Held::Shared {
+                    count,
+                    weight,
+                    values,
+                };
                 Ok(())
             }
             Err(e) => {
@@ -150,8 +180,13 @@ impl ValueList {
     {
         let held = match &self.held {
             Held::Own(values) => Held::Own(copies(alloc, values.as_slice())?),
-            Held::Shared { count, values } => Held::Shared {
+            Held::Shared {
+                count,
+                weight,
+                values,
+            } => Held::Shared {
                 count: *count,
+                weight: *weight,
                 values: Arc::try_clone(values)?,
             },
         };
@@ -170,21 +205,32 @@ impl ValueList {
             Held::Own(values) => Arc::new(alloc, copies(alloc, values.as_slice())?)?,
             Held::Shared { values, .. } => Arc::try_clone(values)?,
         };
+        let weight = few_weight(count, values.as_slice());
         Ok(ValueList {
-            held: Held::Shared { count, values },
+            held: Held::Shared {
+                count,
+                weight,
+                values,
+            },
         })
     }
 
-    /// The weight of the values: 16 for each, and the bytes of each text. A value that stands for many is
-    /// looked at once.
+    /// The weight of the values: 16 for each, and the bytes of each text. Of a shared list it is known, and
+    /// a value that stands for many is looked at once.
     pub fn weight(&self) -> u64
         requires { length self.now ≤ 8192 }
         ensures weight { result ≡ weight_of self.now }
         ensures most { result ≤ 65552 * length self.now }
     {
-        match self.count_and_values() {
-            (count, [only]) => count as u64 * value_weight(only),
-            (_, values) => values_weight(values),
+        match &self.held {
+            Held::Shared {
+                weight: Some(weight),
+                ..
+            } => *weight,
+            _ => {
+                let (count, values) = self.count_and_values();
+                stretched_weight(count, values)
+            }
         }
     }
 
@@ -195,9 +241,31 @@ impl ValueList {
     {
         match &self.held {
             Held::Own(values) => (values.len(), values.as_slice()),
-            Held::Shared { count, values } => (*count, values.as_slice()),
+            Held::Shared { count, values, .. } => (*count, values.as_slice()),
         }
     }
+}
+
+/// What values weigh that are stretched to a count. One value that stands for many is looked at once.
+fn stretched_weight(count: usize, values: &[Value]) -> u64
+    requires { length (stretched count values.now) ≤ 8192 }
+    ensures weight { result ≡ weight_of (stretched count values.now) }
+    ensures most { result ≤ 65552 * length (stretched count values.now) }
+{
+    match values {
+        [only] => count as u64 * value_weight(only),
+        _ => values_weight(values),
+    }
+}
+
+/// What values weigh that are stretched to a count, where they are at most 8,192.
+fn few_weight(count: usize, values: &[Value]) -> Option<u64>
+    ensures { IsWeight result (stretched count values.now) }
+{
+    if stretched_len(count, values) > MOST_WEIGHED {
+        return None;
+    }
+    Some(stretched_weight(count, values))
 }
 
 /// A copy of each value, in order.

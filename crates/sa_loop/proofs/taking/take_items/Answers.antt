@@ -16,10 +16,10 @@ views-requires g c =
     let d = c.args.decls.now in
     let has = g.R.Rooms.has c.args.rooms.now in
     let layouts = g.R.Rooms.layouts c.args.rooms.now in
-    subst (λ (os : List Operand). AreHeld d has layouts os) (sym c.as_slice-operands.ensures) (are-held d has layouts c.args.call.now c.requires.can)
+    record { held = subst (λ (os : List Operand). AreHeld d has layouts os) (sym c.as_slice-operands.ensures) (are-held d has layouts c.args.call.now c.requires.can); known = c.requires.known }
 
-pub returns-then-weight-gt-MOST_WEIGHT : goal.returns-then-weight-gt-MOST_WEIGHT
-returns-then-weight-gt-MOST_WEIGHT g c =
+pub returns-then-weight-gt-MOST_WEIGHT-clause-taken : goal.returns-then-weight-gt-MOST_WEIGHT-clause-taken
+returns-then-weight-gt-MOST_WEIGHT-clause-taken g c =
     let call = c.args.call.now in
     let same = given-same call.op c.requires.items in
     let literals = c.literals_weight.ensures.weight ∙ ap (sum_by literal_weight) c.as_slice-operands.ensures in
@@ -27,14 +27,14 @@ returns-then-weight-gt-MOST_WEIGHT g c =
     taken-heavy c.args.decls.now (g.R.Rooms.layouts c.args.rooms.now) call c.in_ok-weights.weights (c.in_ok-weights.read_weight + c.literals_weight.result)
     (λ statistics. cc (same, statistics)) c.in_ok-weights.ensures.weights (omega arith) (omega arith)
 
-pub returns : goal.returns
-returns g c =
+pub returns-clause-taken : goal.returns-clause-taken
+returns-clause-taken g c =
     let call = c.args.call.now in
     let same = given-same call.op c.requires.items in
     let literals = c.literals_weight.ensures.weight ∙ ap (sum_by literal_weight) c.as_slice-operands.ensures in
     let read = c.in_ok-weights.ensures.sum in
     let d = c.args.decls.now in
     let layouts = g.R.Rooms.layouts c.args.rooms.now in
-    let lists = c.in_ok-lists.ensures ∙ ap (λ (os : List Operand). views_read d (world_of layouts) os) c.as_slice-operands.ensures in
+    let lists = c.in_ok-lists.ensures.lists ∙ ap (λ (os : List Operand). views_read d (world_of layouts) os) c.as_slice-operands.ensures in
     taken-light d layouts call c.in_ok-weights.weights (c.in_ok-weights.read_weight + c.literals_weight.result) c.in_ok-lists.lists c.new.result
     same c.in_ok-weights.ensures.weights (omega arith) (omega arith) lists

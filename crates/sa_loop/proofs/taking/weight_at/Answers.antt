@@ -1,7 +1,6 @@
 -- One more operand: it is a view of this descriptor, a view of another, or a literal.
-use Rattle.std.proofs.Common.{◌∷◌, [], sym, ap, ◌∙◌, arith}
+use Rattle.std.proofs.Common.{ℕ, ◌∷◌, [], sym, ap, ◌∙◌, arith}
 use Rattle.sa_text.specs.Values.{weight_of}
-use Rattle.sa_alloc.specs.Layouts.{Layout}
 use Rattle.sa_call.specs.declared.call.Operand.{Operand}
 use Rattle.sa_loop.specs.Runs.{shown}
 use Rattle.sa_loop.specs.States.{view_values}
@@ -20,7 +19,7 @@ loop-operand-preserved g c =
     elim c.match-operand.branch [
       | in-View+then-home_of-number+in_ok-weight-in-View w ↦
           let v = w.in-View.view in
-          let weighs = w.in_ok-weight-in-View.ensures.weight ∙ ap (λ (x : Layout). weight_of (view_values d (shown x) v)) w.store.ensures ∙ weight-here d s n v (sym w.home_of.ensures ∙ w.if-home_of-number.true) ∙ ap one (sym w.in-View.is) in
+          let weighs = w.in_ok-weight-in-View.ensures.weight ∙ ap (λ (k : ℕ). weight_of (view_values d (shown (g.R.Rooms.layouts c.args.rooms.now k)) v)) (sym w.home_of.ensures ∙ w.if-home_of-number.true) ∙ weight-here d s n v (sym w.home_of.ensures ∙ w.if-home_of-number.true) ∙ ap one (sym w.in-View.is) in
           let most = w.in_ok-weight-in-View.ensures.most in
           record { weight = weight-next d s n c.args.operands.now l.operand-index c.operand-item.result l.weight c.match-operand.weight w.in_ok-weight-in-View.field-0 c.operand-item.is c.loop-operand-test.true l.invariant.weight w.weight-is weighs; most = omega arith }
       | in-View+else-home_of-number w ↦

@@ -21,11 +21,11 @@ loop-number-preserved g c =
     elim c.if-is_named.branch [
       | then-is_named+in_ok-weight+in_ok-push w ↦
           let named = sym c.is_named.ensures ∙ w.if-is_named.true in
-          let one = w.in_ok-weight.ensures.weight ∙ ap (λ (os : List Operand). weight_taken d (s n) n os) w.as_slice.ensures ∙ sym (weight-same (entry call.op).gives d (s n) call n (given-same call.op c.requires.items)) in
+          let one = w.in_ok-weight.ensures.weight ∙ ap (λ (os : List Operand). weight_taken d (s n) n os) w.as_slice-operands.ensures ∙ sym (weight-same (entry call.op).gives d (s n) call n (given-same call.op c.requires.items)) in
           let more = w.weights-is ∙ w.in_ok-push.ensures.ok in
           let few = (are-short d call c.requires.can.valid).few in
-          let lent = ap length w.as_slice.ensures in
-          let most : w.in_ok-weight.weight ≤ 537001984 * length w.as_slice.result.now = w.in_ok-weight.ensures.most in
+          let lent = ap length w.as_slice-operands.ensures in
+          let most : w.in_ok-weight.weight ≤ 537001984 * length w.as_slice-operands.result.now = w.in_ok-weight.ensures.most in
           record {
             weights = weights-named weigh (is_named d call) n l.weights c.if-is_named.weights w.in_ok-weight.weight l.invariant.weights named one more;
             together = sum-more l.weights c.if-is_named.weights w.in_ok-weight.weight l.together c.if-is_named.together l.invariant.together more w.together-is;

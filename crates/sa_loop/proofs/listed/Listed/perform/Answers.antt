@@ -7,8 +7,10 @@ use Rattle.sa_call.specs.Told.{parts_told}
 use Rattle.sa_call.specs.Valid.{IsCall}
 use Rattle.sa_loop.specs.declared.act.Act.{Act}
 use Rattle.sa_loop.specs.declared.listed.Listed.{Listed}
+use Rattle.sa_loop.specs.LastReads.{AreKnown}
 use Rattle.sa_loop.specs.Plays.{play_replies}
-use Rattle.sa_loop.proofs.PerformLemmas.{IsRun, can-take, can-put, next, alike-more, replies-more, run-kept}
+use Rattle.sa_loop.specs.Runs.{layout_in, world_of}
+use Rattle.sa_loop.proofs.PerformLemmas.{IsRun, can-take, can-put, next, alike-more, known-next, known-same, replies-more, run-kept}
 use Rattle.sa_loop.proofs.listed.Listed.perform.Goals as goal
 
 abbrev calls_of : List Act → List Call
@@ -17,11 +19,11 @@ calls_of acts = map (λ (a : Act). a.body.now) acts
 run_of : (l : Listed) → IsRun l.decls.now l.stores.items (calls_of l.acts.items)
 run_of l = record { shaped = l.shaped; sized = l.sized; left = l.left }
 
-pub take-requires : goal.take-requires
-take-requires c = can-take c.args.self.now.decls.now c.args.self.now.stores.items (calls_of c.args.self.now.acts.items) c.args.call.now (run_of c.args.self.now) c.arrays-declared.ensures.declared (subst (λ d. IsCall d c.args.call.now) c.requires.decls c.requires.call)
+pub take-requires-clause-can : goal.take-requires-clause-can
+take-requires-clause-can c = can-take c.args.self.now.decls.now c.args.self.now.stores.items (calls_of c.args.self.now.acts.items) c.args.call.now (run_of c.args.self.now) c.arrays-declared.ensures.declared (subst (λ d. IsCall d c.args.call.now) c.requires.decls c.requires.call)
 
 pub put_outcome-requires : goal.put_outcome-requires
-put_outcome-requires c = can-put c.args.self.now.decls.now c.args.self.now.stores.items (calls_of c.args.self.now.acts.items) c.args.call.now (parts_told c.args.self.now.decls.now c.args.call.now c.in_ok-read.read c.in_ok-read.weights) c.in_ok-outcome.outcome (run_of c.args.self.now) c.arrays-declared.ensures.declared (subst (λ d. IsCall d c.args.call.now) c.requires.decls c.requires.call) (c.in_ok-outcome.ensures c.in_ok-read.weights c.in_ok-read.ensures.are_weights)
+put_outcome-requires c = can-put c.args.self.now.decls.now c.args.self.now.stores.items (calls_of c.args.self.now.acts.items) c.args.call.now (parts_told c.args.self.now.decls.now c.args.call.now c.in_ok-read.read c.in_ok-read.weights) c.in_ok-outcome.outcome (run_of c.args.self.now) c.arrays-declared.ensures.declared (subst (λ d. IsCall d c.args.call.now) c.requires.decls c.requires.call) (c.in_ok-outcome.ensures c.in_ok-read.weights c.in_ok-read.ensures.taken.are_weights)
 
 pub returns-clause-act : goal.returns-clause-act
 returns-clause-act c = record {
@@ -31,14 +33,14 @@ returns-clause-act c = record {
   number_is = c.new.ensures.2;
   body_is = c.new.ensures.3;
   decls_is = c.new.ensures.0;
-  outcome_is = c.new.ensures.4 ∙ (c.in_ok-outcome.ensures c.in_ok-read.weights c.in_ok-read.ensures.are_weights ∙ ap (decide c.args.self.now.decls.now c.args.call.now) c.in_ok-read.ensures.parts);
+  outcome_is = c.new.ensures.4 ∙ (c.in_ok-outcome.ensures c.in_ok-read.weights c.in_ok-read.ensures.taken.are_weights ∙ ap (decide c.args.self.now.decls.now c.args.call.now) c.in_ok-read.ensures.taken.parts);
 }
 
 pub returns-clause-world : goal.returns-clause-world
 returns-clause-world c =
     (next c.args.self.now.decls.now c.args.self.now.stores.items c.put_outcome.new.stores.items (calls_of c.args.self.now.acts.items) c.args.call.now c.in_ok-outcome.outcome (run_of c.args.self.now)
     (subst (λ d. IsCall d c.args.call.now) c.requires.decls c.requires.call)
-    (c.in_ok-outcome.ensures c.in_ok-read.weights c.in_ok-read.ensures.are_weights ∙ ap (decide c.args.self.now.decls.now c.args.call.now) c.in_ok-read.ensures.parts)
+    (c.in_ok-outcome.ensures c.in_ok-read.weights c.in_ok-read.ensures.taken.are_weights ∙ ap (decide c.args.self.now.decls.now c.args.call.now) c.in_ok-read.ensures.taken.parts)
     c.in_ok-put_outcome.ensures.sound c.in_ok-put_outcome.ensures.many c.in_ok-put_outcome.ensures.written).shows
 
 pub invariant_of-self-in-Break-branch-4 : goal.invariant_of-self-in-Break-branch-4
@@ -53,6 +55,7 @@ invariant_of-self-in-Break-branch-4 c =
       replied = subst (λ (all : List Act). map (λ (a : Act). a.outcome.reply) all ≡ play_replies decls (calls_of all)) (sym same) c.args.self.now.replied;
       shaped = run.shaped;
       sized = run.sized;
+      known = known-same decls c.args.self.now.stores.items c.put_outcome.new.stores.items c.take.new.lasts.items c.in_err-put_outcome.ensures.kept c.take.ensures.known;
       left = run.left;
     }
 
@@ -65,15 +68,18 @@ invariant_of-self-2 c =
     let act = c.new.result in
     let is = next decls stores c.put_outcome.new.stores.items (calls_of acts) call c.in_ok-outcome.outcome (run_of c.args.self.now)
     (subst (λ d. IsCall d call) c.requires.decls c.requires.call)
-    (c.in_ok-outcome.ensures c.in_ok-read.weights c.in_ok-read.ensures.are_weights ∙ ap (decide decls call) c.in_ok-read.ensures.parts)
+    (c.in_ok-outcome.ensures c.in_ok-read.weights c.in_ok-read.ensures.taken.are_weights ∙ ap (decide decls call) c.in_ok-read.ensures.taken.parts)
     c.in_ok-put_outcome.ensures.sound c.in_ok-put_outcome.ensures.many c.in_ok-put_outcome.ensures.written in
     let more : c.push_reserved.new.self.items ≡ acts ++ act ∷ [] = c.push_reserved.ensures.items ∙ ap (λ all. all ++ act ∷ []) c.in_ok-reserve.ensures.items in
     let called : calls_of c.push_reserved.new.self.items ≡ calls_of acts ++ call ∷ [] = ap calls_of more ∙ (map-append (λ (a : Act). a.body.now) acts (act ∷ []) ∙ ap (λ b. calls_of acts ++ b ∷ []) c.new.ensures.3) in
+    let valid = subst (λ d. IsCall d call) c.requires.decls c.requires.call in
+    let known = known-next decls stores c.put_outcome.new.stores.items (calls_of acts) call c.in_ok-outcome.outcome c.take.new.lasts.items c.arrays-declared.ensures.declared valid is c.take.ensures.known in
     let run = subst (λ cs. IsRun decls c.put_outcome.new.stores.items cs) (sym called) is.run in
     record {
       alike = subst (λ (all : List Act). map (λ (a : Act). a.decls.now) all ≡ replicate (length all) decls) (sym more) (alike-more decls acts act c.args.self.now.alike c.new.ensures.0);
       replied = ap (map (λ (a : Act). a.outcome.reply)) more ∙ (map-append (λ (a : Act). a.outcome.reply) acts (act ∷ []) ∙ (ap (λ (o : Outcome). map (λ (a : Act). a.outcome.reply) acts ++ o.reply ∷ []) c.new.ensures.4 ∙ (replies-more decls (calls_of acts) (map (λ (a : Act). a.outcome.reply) acts) call c.in_ok-outcome.outcome c.args.self.now.replied is.came ∙ ap (play_replies decls) (sym called))));
       shaped = run.shaped;
       sized = run.sized;
+      known = subst (AreKnown decls (world_of (layout_in c.put_outcome.new.stores.items))) (sym c.forget_output.ensures) known;
       left = run.left;
     }
