@@ -33,11 +33,11 @@ Decls { descrs: [Descr { na: Txt(Text { bytes: SharedBytes { held: Inside { size
     arrays: [ArrayDecl { home: 1, kind: Str, len: 1 }, ArrayDecl { home: 0, kind: Str, len: 2 }, ArrayDecl { home: 0, kind: Str, len: 3 }] }
 Sequence { items: [\
     Sequence { items: [Call { op: Set, operands: Sequence { items: [\
-    Literal(Values(ValueList { held: Shared { count: 2, values: [Of(Text { bytes: SharedBytes { held: Inside { size: 6, bytes: [195, 169, 34, 92, 32, 120, 0, 0, 0, 0, 0, 0, 0, 0] } } }), Missing] } }))] }, \
+    Literal(Values(ValueList { held: Shared { count: 2, weight: Some(38), values: [Of(Text { bytes: SharedBytes { held: Inside { size: 6, bytes: [195, 169, 34, 92, 32, 120, 0, 0, 0, 0, 0, 0, 0, 0] } } }), Missing] } }))] }, \
     out: Some(View { array: 1, start: 0, count: 2, step: 1 }) }] }, \
     Sequence { items: [] }, \
     Sequence { items: [Call { op: Set, operands: Sequence { items: [\
-    Literal(Values(ValueList { held: Shared { count: 1, values: [Of(Text { bytes: SharedBytes { held: Inside { size: 0, bytes: [0, 0, 0, 0, 0, 0, 0, 0, 0, 0, 0, 0, 0, 0] } } })] } }))] }, \
+    Literal(Values(ValueList { held: Shared { count: 1, weight: Some(16), values: [Of(Text { bytes: SharedBytes { held: Inside { size: 0, bytes: [0, 0, 0, 0, 0, 0, 0, 0, 0, 0, 0, 0, 0, 0] } } })] } }))] }, \
     out: Some(View { array: 2, start: 0, count: 2, step: 2 }) }, \
     Call { op: Copy, operands: Sequence { items: [View(View { array: 1, start: 1, count: 2, step: -1 })] }, \
     out: Some(View { array: 2, start: 1, count: 2, step: 1 }) }, \
