@@ -1,0 +1,5 @@
+pub mod ListLemmas
+pub mod PartLemmas
+pub mod PartyLemmas
+pub mod TieLemmas
+pub mod WalkLemmas

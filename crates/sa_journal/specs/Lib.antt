@@ -1,0 +1,9 @@
+pub use Rattle.sa_base.specs.Items
+pub use Rattle.sa_base.specs.Deeds
+pub use Rattle.sa_tie.specs.Ends
+pub use Rattle.boxcar.specs.Table
+pub mod Chains
+pub mod Journals
+pub mod Parties
+pub mod Said
+pub mod Shapes
