@@ -1,5 +1,5 @@
 """Runs the program on loads of growing size and prints time, memory, and time per byte of script and
-report together; for the loads that are told in calls, per byte of text that the calls copy or show."""
+report together; for the loads that are told in calls, per byte of text that the calls copy, make or show."""
 import os
 import subprocess
 import sys
@@ -92,6 +92,25 @@ def viewed(calls):
     return head + b"".join(line for line, _ in taken) + b"end\n", 20 * (2048 + sum(items for _, items in taken))
 
 
+def making(line, made):
+    """A load of one call that makes 8,192 texts of one array of texts of 6 bytes, with a space at each
+    end, and puts them into an array of another descriptor. `made` is the size of each text that it makes."""
+
+    def load(calls):
+        head = b"descr d nan\ndescr e nan\narray a d str 8192\narray b e str 8192\ntask\n"
+        head += b"set a (" + b",".join(b'" %04d "' % (k % 10000) for k in range(8192)) + b")\n"
+        return head + line * (calls - 1) + b"end\n", 8192 * made * (calls - 1)
+
+    return load
+
+
+MAKING = (("add", making(b'add a "-xyz" into b\n', 10)), ("multiply", making(b"multiply a 3 into b\n", 18)),
+          ("center", making(b'center a 11 "." into b\n', 11)), ("ljust", making(b"ljust a 11 into b\n", 11)),
+          ("rjust", making(b"rjust a 11 into b\n", 11)), ("zfill", making(b"zfill a 11 into b\n", 11)),
+          ("strip", making(b"strip a into b\n", 4)), ("lstrip", making(b"lstrip a into b\n", 5)),
+          ("rstrip", making(b'rstrip a " " into b\n', 5)))
+
+
 def peak_memory(program, script):
     """The program's peak memory in KiB, none where /usr/bin/time is absent. A child that Python itself
     starts begins with Python's own memory, so it is measured by a small process between the two."""
@@ -135,7 +154,7 @@ def main():
             each = wall / (len(script) + out) * 1e9
             print(f"{name:<10}{len(script) / MIB:>6.2f}{status:>8}{wall:>9.3f}{each:>11.1f}{shown_memory(peak)}{out / MIB:>12.2f}")
     print(f"{'load':<10}{'calls':>6}{'status':>8}{'wall s':>9}{'ns a byte':>11}{'peak MiB':>10}{'moved MiB':>12}")
-    for name, make in (("stretched", stretched), ("viewed", viewed)):
+    for name, make in (("stretched", stretched), ("viewed", viewed)) + MAKING:
         for calls in (256, 512, 1024):
             script, moved = make(calls)
             wall, peak, status, _ = run(program, script)

@@ -1,4 +1,4 @@
-ghost use Rattle.std.specs.Prelude.{◌≡◌, ◌+◌, ◌≤◌, ◌<◌, ◌==◌, [], length, take, drop, IfOk};
+ghost use Rattle.std.specs.Prelude.{◌≡◌, ◌+◌, ◌≤◌, ◌<◌, ◌^◌, ◌==◌, [], length, take, drop, IfOk};
 ghost use Rattle.std.specs.Arc.{arc_value};
 ghost use Rattle.std.specs.Str.{bytes_eq};
 ghost use Rattle.sa_bytes.specs.Limits.{most_shared};
@@ -87,6 +87,40 @@ impl SharedBytes {
         Block::new(alloc, Vec::from_slice(alloc, &bytes[..size])?)?.part(0, size)
     }
 
+    /// The bytes of a vector of at most 65,536. Up to 14 are copied; more are kept where they stand, and
+    /// take one allocation, for the count. `Memory` where it is refused.
+    #[inline]
+    pub fn from_vec(bytes: Vec<u8>) -> Result<SharedBytes, Memory>
+        requires { length bytes.items ≤ most_shared }
+        ensures { IfOk result (λ b. b ≡ bytes.items) }
+    {
+        let size = bytes.len();
+        if size <= INSIDE_MOST {
+            return Ok(SharedBytes::inside(&bytes, size));
+        }
+        Block::new(*bytes.allocator(), bytes)?.part(0, size)
+    }
+
+    /// `size` of the bytes from a place on. It takes no memory: up to 14 are copied, and of more the part
+    /// is counted; `Memory` means that the count is full.
+    #[inline]
+    pub fn part(&self, start: usize, size: usize) -> Result<SharedBytes, Memory>
+        requires { start + size ≤ length self.now }
+        ensures { IfOk result (λ b. b ≡ take size (drop start self.now)) }
+    {
+        if size <= INSIDE_MOST {
+            return Ok(SharedBytes::inside(&self.as_slice()[start..], size));
+        }
+        match &self.held {
+            Held::Inside { .. } => unreachable!(),
+            Held::Part {
+                last,
+                start: first,
+                block,
+            } => part_of_part(*last, *first, block, start, size),
+        }
+    }
+
     /// The first `size` bytes of a slice, which stand inside the value.
     #[inline(always)]
     pub(crate) fn inside(bytes: &[u8], size: usize) -> SharedBytes
@@ -104,7 +138,8 @@ impl SharedBytes {
     /// What a block holds from a place on, up to the byte that stands `last` places behind it.
     #[inline(always)]
     pub(crate) fn of_part(last: u16, start: u32, block: Arc<Vec<u8>>) -> SharedBytes
-        requires { start + last < length (arc_value block).items }
+        requires within { start + last < length (arc_value block).items }
+        requires small { length (arc_value block).items < 2 ^ 32 }
         ensures { result ≡ take (last + 1) (drop start (arc_value block).items) }
     {
         SharedBytes {
@@ -174,6 +209,25 @@ impl SharedBytes {
     {
         self.len() == other.len() && self.as_slice() == other.as_slice()
     }
+}
+
+/// `size` bytes from a place on of those that a block holds from `first` on, up to the byte that stands
+/// `last` places behind it.
+fn part_of_part(
+    last: u16,
+    first: u32,
+    block: &Arc<Vec<u8>>,
+    start: usize,
+    size: usize,
+) -> Result<SharedBytes, Memory>
+    requires some { 0 < size }
+    requires within { start + size ≤ last + 1 }
+    requires held { first + last < length (arc_value block.now).items }
+    requires small { length (arc_value block.now).items < 2 ^ 32 }
+    ensures { IfOk result (λ b. b ≡ take size (drop start (take (last + 1) (drop first (arc_value block.now).items)))) }
+{
+    let block = Arc::try_clone(block)?;
+    Ok(SharedBytes::of_part((size - 1) as u16, first + start as u32, block))
 }
 
 /// An array that begins with the first `size` bytes of a slice. What stands behind them is any bytes.

@@ -80,10 +80,20 @@ fn parts_of_a_block_are_its_bytes(rt: HostRuntime) -> Result<(), Fail> {
             part.as_slice() == &letters[start..start + size],
             "of {start} and {size}"
         );
+        let whole = SharedBytes::from_vec(Vec::from_slice(alloc, letters)?)?;
+        assert!(rt; start + size <= whole.len());
+        assert!(rt;
+            whole.part(start, size)?.is_same(&part),
+            "of {start} and {size}"
+        );
     }
-    // a part outlives its block
+    // a part outlives its block, and a part of it outlives it
     let part = block.part(3, 18)?;
     drop(block);
     assert!(rt; part.as_slice() == b"defghijklmnopqrstu".as_slice());
+    assert!(rt; part.len() == 18);
+    let rest = part.part(2, 16)?;
+    drop(part);
+    assert!(rt; rest.as_slice() == b"fghijklmnopqrstu".as_slice());
     Ok(())
 }

@@ -3,8 +3,12 @@ use Rattle.std.proofs.Common.{◌≡◌, ℕ, ◌≤◌, ltb, false, List, [], �
 use Rattle.std.specs.List.{AllByRecursion}
 use Rattle.std.proofs.lemmas.Bool.{le-ltb}
 use Rattle.std.proofs.lemmas.List.{length-map}
+use Rattle.std.proofs.lemmas.Simd.{map-map}
 use Rattle.sa_plain.specs.Items.{count_of, items_of}
+use Rattle.sa_text.specs.Values.{item_of}
+use Rattle.sa_text.specs.declared.value.Value.{Value}
 use Rattle.sa_plain.specs.declared.items.Items.{Items}
+use Rattle.sa_plain.specs.declared.items.Items.TheVariants.{Values}
 use Rattle.sa_call.specs.declared.call.Call.{Call}
 use Rattle.sa_call.specs.declared.call.Operand.{Operand}
 use Rattle.sa_call.specs.declared.call.Operand.TheVariants as operand
@@ -44,24 +48,38 @@ columns-few now lent os lists read same few =
     few-lent now lent (subst (AllByRecursion (λ c. count_of c ≤ 8192)) (sym read) columns)
 
 -- the only column is the first
-first-one : {A : Type 0} (now : A → Items) (lent : List A) (c : A) → length lent ≡ 1 → slice_get lent 0 ≡ Some c → map now lent ≡ now c ∷ []
-first-one now [] c one first = absurd (omega arith)
-first-one now (x ∷ []) c one first = let e : x ≡ c = cc in ap (λ y. now y ∷ []) e
-first-one now (x ∷ y ∷ xs) c one first = absurd (omega arith)
+first-one : {A : Type 0} (items : A → Items) (lent : List A) (c : A) (os : List Operand) → map (λ (a : A). count_of (items a)) lent ≡ map operand_count os → length os ≡ 1 → slice_get lent 0 ≡ Some c → lent ≡ c ∷ []
+first-one items lent c os counts one first = go lent long first
+  where
+    long : length lent ≡ 1
+    long = sym (length-map lent (λ a. count_of (items a))) ∙ ap length counts ∙ length-map os operand_count ∙ one
 
-pub column-one : {A : Type 0} (now : A → Items) (lent : List A) (c : A) (os : List Operand) (lists : List Items) → map now lent ≡ columns_read os lists → map count_of lists ≡ view_counts os
-    → length os ≡ 1 → slice_get lent 0 ≡ Some c → columns_read os lists ≡ now c ∷ []
-column-one now lent c os lists read same one first =
-    let lengths = length-map lent now in
-    let counted = length-map (columns_read os lists) count_of in
-    let operands = length-map os operand_count in
-    let counts = ap length (columns-counts os lists same) in
-    let columns = ap length read in
-    sym read ∙ first-one now lent c (omega arith) first
+    go : {A : Type 0} → (lent : List A) → {c : A} → length lent ≡ 1 → slice_get lent 0 ≡ Some c → lent ≡ c ∷ []
+    go [] long first = absurd (omega arith)
+    go (x ∷ []) long first = cc
+    go (x ∷ y ∷ xs) long first = absurd (omega arith)
 
--- what comes of a call with one column that is not too heavy
-pub outcome-one : (d : Declared) (call : Call) (columns : List Items) (column : Items) (weight : ℕ) → columns ≡ column ∷ [] → weight ≡ columns_weight columns → weight ≤ 1048576
-    → outcome_on d call weight (items_of column ∷ []) ≡ outcome_read d call columns
-outcome-one d call columns column weight one weighs light =
+-- where it has values, they are as many as the operand's items
+pub one-column : {A : Type 0} (items : A → Items) (lent : List A) (c : A) (os : List Operand) (vs : List Value) → map (λ (a : A). count_of (items a)) lent ≡ map operand_count os → length os ≡ 1 → slice_get lent 0 ≡ Some c → items c ≡ Values vs
+    → (map operand_count os ≡ length vs ∷ []) × (map (λ (a : A). items_of (items a)) lent ≡ map item_of vs ∷ [])
+one-column items lent c os vs counts one first is =
+    let all = first-one items lent c os counts one first in
+    (sym counts ∙ ap (map (λ a. count_of (items a))) all ∙ ap (λ (i : Items). count_of i ∷ []) is, ap (map (λ a. items_of (items a))) all ∙ ap (λ (i : Items). items_of i ∷ []) is)
+
+-- what comes of a call that is not too heavy
+pub outcome-light : (d : Declared) (call : Call) (columns : List Items) (weight : ℕ) → weight ≡ columns_weight columns → weight ≤ 1048576
+    → outcome_on d call weight (map items_of columns) ≡ outcome_read d call columns
+outcome-light d call columns weight weighs light =
     let fits : ltb 1048576 (columns_weight columns) ≡ false = le-ltb 1048576 (columns_weight columns) (omega arith) in
-    rw fits (ap (λ w. outcome_on d call w (items_of column ∷ [])) weighs ∙ ap (λ cs. outcome_on d call (columns_weight columns) (map items_of cs)) (sym one))
+    rw fits (ap (λ w. outcome_on d call w (map items_of columns)) weighs)
+
+-- columns that are lent have as many items as the operands
+pub lent-counts : {A : Type 0} (now : A → Items) (lent : List A) (os : List Operand) (lists : List Items) → map now lent ≡ columns_read os lists → map count_of lists ≡ view_counts os → map (λ (a : A). count_of (now a)) lent ≡ map operand_count os
+lent-counts now lent os lists read same = sym (map-map count_of now lent) ∙ ap (map count_of) read ∙ columns-counts os lists same
+
+-- and what comes of them is what comes of those that were read
+pub outcome-lent : {A : Type 0} (d : Declared) (call : Call) (now : A → Items) (lent : List A) (lists : List Items) (weight : ℕ) → map now lent ≡ columns_read call.operands lists → weight ≡ columns_weight (map now lent) → weight ≤ 1048576
+    → outcome_on d call weight (map (λ (a : A). items_of (now a)) lent) ≡ outcome_read d call (columns_read call.operands lists)
+outcome-lent d call now lent lists weight read weighs light =
+    ap (outcome_on d call weight) (sym (map-map items_of now lent) ∙ ap (map items_of) read)
+    ∙ outcome-light d call (columns_read call.operands lists) weight (weighs ∙ ap columns_weight read) light

@@ -1,7 +1,7 @@
 -- What comes of a call by what was read is what comes of it by descriptor.
-use Rattle.std.proofs.Common.{◌≡◌, ℕ, ◌+◌, ◌*◌, ◌<◌, eqb, nat_lt, true, ◌||◌, cond, List, [], ◌∷◌, length, map, Option, Some, None, refl, sym, ap, ◌∙◌, arith}
+use Rattle.std.proofs.Common.{◌≡◌, ℕ, ◌+◌, ◌*◌, ◌<◌, eqb, nat_lt, Bool, true, ◌||◌, cond, List, [], ◌∷◌, length, map, Option, Some, refl, sym, ap, ◌∙◌, arith}
 use Rattle.std.specs.List.{list_any, filter, count_by, sum, sum_by, range_with_len}
-use Rattle.std.proofs.lemmas.Bool.{or_left, eq-eqb, lt-ltb, ltb-true, false≢true}
+use Rattle.std.proofs.lemmas.Bool.{or_left, eq-eqb, lt-ltb, ltb-true}
 use Rattle.std.proofs.lemmas.List.Sums.{sum_by-cons, length-filter}
 use Rattle.sa_base.specs.Deeds.{Place, Part, Read, Counted, Pictured}
 use Rattle.sa_base.specs.declared.stats.Stats.{Stats}
@@ -9,13 +9,12 @@ use Rattle.sa_plain.specs.Items.{count_of}
 use Rattle.sa_plain.specs.declared.items.Items.{Items}
 use Rattle.sa_view.specs.declared.view.View.{View}
 use Rattle.sa_call.specs.declared.call.Call.{Call}
-use Rattle.sa_call.specs.declared.call.Op.{Op}
-use Rattle.sa_call.specs.declared.call.Op.TheVariants as op
 use Rattle.sa_call.specs.declared.call.Operand.{Operand}
 use Rattle.sa_call.specs.declared.form.Gives.{Gives}
 use Rattle.sa_call.specs.declared.form.Gives.TheVariants as gives
 use Rattle.sa_call.specs.declared.operands.Operands.TheVariants as operands
 use Rattle.sa_call.specs.declared.operands.Picture.{Picture}
+use Rattle.sa_call.specs.declared.reply.Outcome.{Outcome}
 use Rattle.sa_call.specs.declared.reply.Refusal.TheVariants as refusal
 use Rattle.sa_call.specs.declared.reply.Reply.TheVariants as reply
 use Rattle.sa_call.specs.Columns.{columns_read, columns_weight, outcome_read}
@@ -24,16 +23,9 @@ use Rattle.sa_call.specs.Decls.{Declared, IsDeclared}
 use Rattle.sa_call.specs.Forms.{entry, descr_of}
 use Rattle.sa_call.specs.Parts.{Parts, part_at, part_weight, items_read, literal_weight, weight_read, columns_of, picture_weight}
 use Rattle.sa_call.specs.Told.{homes_of, is_named, is_number, items_told, operand_is_at, output_is_at, parts_told, places_told, view_counts, weighed_by, weighed_parts}
-use Rattle.sa_call.specs.Valid.{IsCall, are_of, is_descr_of, output_stands}
+use Rattle.sa_call.specs.Valid.{IsCall, is_descr_of}
+use Rattle.sa_call.proofs.OpLemmas.{IsWhole, on-items, on-picture, on-statistics, whole-alone}
 use Rattle.sa_call.proofs.PartLemmas.{any-declared, columns-told, once-among, part-there, sum_by-map, weight-told, count-once}
-
--- a call that gives items is on no descriptor as a whole
-descr-none : (o : Op) → (entry o).gives ≡ gives.Same → descr_of o ≡ None
-descr-none op.Set same = refl
-descr-none op.Copy same = refl
-descr-none op.Show same = refl
-descr-none (op.Stats d) same = cc
-descr-none (op.Image d) same = cc
 
 -- each descriptor with a view of a call is one of its descriptors, once
 home-once : (decls : Declared) (call : Call) → IsDeclared decls → IsCall decls call → (d : ℕ) → list_any (operand_is_at decls d) call.operands ≡ true → count_by (eqb d) (homes_of decls call) ≡ 1
@@ -59,7 +51,7 @@ items-decide decls call lists weights declared valid same counts =
     ap (λ n. n + sum_by literal_weight call.operands) (sum_by-map (λ (p : ℕ × Part). part_weight p.1) (λ (d : ℕ). (d, told d)) homes)
     ∙ weight-told decls homes call.operands lists counts once in
     let heavy = refused_with refusal.TooMuch 0 in
-    let none = descr-none call.op same in
+    let none = (on-items call.op same).descr in
     let by_columns : decide decls call parts ≡ cond (nat_lt 1048576 (weight_read call parts)) heavy (outcome_on decls call (weight_read call parts) (columns_of decls (λ d. items_read (part_at parts d)) call.operands)) =
     ap (λ (o : Option ℕ). cond (nat_lt 1048576 (weight_read call parts)) heavy (decided decls call o parts)) none in
     sym (by_columns
@@ -98,30 +90,34 @@ whole part d n below =
     ap (λ w. cond (nat_lt 1048576 w) (refused_with refusal.TooMuch 0) (told_by (part_at parts d))) weight
     ∙ ap (λ (p : Part). cond (nat_lt 1048576 (part_weight part)) (refused_with refusal.TooMuch 0) (told_by p)) only.0
 
+-- a call that is on a descriptor as a whole, and its one part
+whole-part : (decls : Declared) (call : Call) (part : Part) → IsWhole call.op → IsCall decls call
+    → decide decls call (each_part part (homes_of decls call)) ≡ cond (nat_lt 1048576 (part_weight part)) (refused_with refusal.TooMuch 0) (told_by part)
+whole-part decls call part is valid =
+    let none = whole-alone call.op call.operands call.out is valid.sorts valid.output in
+    let d = is.number in
+    let below : d < length decls.descrs = ltb-true d (length decls.descrs) (ap (is_descr_of decls) (sym is.descr) ∙ valid.descr) in
+    let named : homes_of decls call ≡ filter (eqb d) (range_with_len 0 (length decls.descrs)) =
+    ap (λ (p : ℕ → Bool). filter p (range_with_len 0 (length decls.descrs))) (λ i k. named-by (none.0 i) (none.1 i) (is.descr i) k) in
+    let weighs = λ (ds : List ℕ) (os : List Operand). sum_by (λ (p : ℕ × Part). part_weight p.1) (each_part part ds) + sum_by literal_weight os in
+    let decides : Option ℕ → List ℕ → List Operand → Outcome = λ o ds os. cond (nat_lt 1048576 (weighs ds os)) (refused_with refusal.TooMuch 0) (decided decls call o (each_part part ds)) in
+    ap (λ o. decides o (homes_of decls call) call.operands) is.descr
+    ∙ ap (λ ds. decides (Some d) ds call.operands) named
+    ∙ ap (λ os. decides (Some d) (filter (eqb d) (range_with_len 0 (length decls.descrs))) os) none.0
+    ∙ whole part d (length decls.descrs) below
+  where
+    named-by : (os : List Operand) (out : Option View) (o : Option ℕ) → ℕ → Bool
+    named-by os out o k = (list_any (operand_is_at decls k) os || output_is_at decls k out) || is_number k o
+
 -- statistics that were read
-pub stats-decide : (decls : Declared) (o : Op) (os : List Operand) (out : Option View) (stats : Stats) (weights : List ℕ) → (entry o).gives ≡ gives.Statistics
-    → are_of (entry o).needs os ≡ true → output_stands (entry o).into out ≡ true → is_descr_of decls (descr_of o) ≡ true
-    → done (reply.Sized stats) ≡ decide decls (record { op = o; operands = os; out = out }) (parts_told decls (record { op = o; operands = os; out = out }) (operands.Stats stats) weights)
-stats-decide decls op.Set os out stats weights same sorts output descr = cc
-stats-decide decls op.Copy os out stats weights same sorts output descr = cc
-stats-decide decls op.Show os out stats weights same sorts output descr = cc
-stats-decide decls (op.Image d) os out stats weights same sorts output descr = cc
-stats-decide decls (op.Stats d) (o ∷ os) out stats weights same sorts output descr = absurd (false≢true sorts)
-stats-decide decls (op.Stats d) [] (Some v) stats weights same sorts output descr = absurd (false≢true output)
-stats-decide decls (op.Stats d) [] None stats weights same sorts output descr = sym (whole (Counted stats) d (length decls.descrs) (ltb-true d (length decls.descrs) descr))
+pub stats-decide : (decls : Declared) (call : Call) (stats : Stats) (weights : List ℕ) → (entry call.op).gives ≡ gives.Statistics → IsCall decls call
+    → done (reply.Sized stats) ≡ decide decls call (parts_told decls call (operands.Stats stats) weights)
+stats-decide decls call stats weights given valid = sym (whole-part decls call (Counted stats) (on-statistics call.op given) valid)
 
 -- a picture that was read
-pub picture-decide : (decls : Declared) (o : Op) (os : List Operand) (out : Option View) (p : Picture) (weights : List ℕ) → (entry o).gives ≡ gives.Picture
-    → are_of (entry o).needs os ≡ true → output_stands (entry o).into out ≡ true → is_descr_of decls (descr_of o) ≡ true
-    → cond (nat_lt 1048576 (picture_weight p.entries p.arena)) (refused_with refusal.TooMuch 0) (done (reply.Pictured p))
-    ≡ decide decls (record { op = o; operands = os; out = out }) (parts_told decls (record { op = o; operands = os; out = out }) (operands.Picture p) weights)
-picture-decide decls op.Set os out p weights same sorts output descr = cc
-picture-decide decls op.Copy os out p weights same sorts output descr = cc
-picture-decide decls op.Show os out p weights same sorts output descr = cc
-picture-decide decls (op.Stats d) os out p weights same sorts output descr = cc
-picture-decide decls (op.Image d) (o ∷ os) out p weights same sorts output descr = absurd (false≢true sorts)
-picture-decide decls (op.Image d) [] (Some v) p weights same sorts output descr = absurd (false≢true output)
-picture-decide decls (op.Image d) [] None p weights same sorts output descr = sym (whole (Pictured p.entries p.arena) d (length decls.descrs) (ltb-true d (length decls.descrs) descr))
+pub picture-decide : (decls : Declared) (call : Call) (p : Picture) (weights : List ℕ) → (entry call.op).gives ≡ gives.Picture → IsCall decls call
+    → cond (nat_lt 1048576 (picture_weight p.entries p.arena)) (refused_with refusal.TooMuch 0) (done (reply.Pictured p)) ≡ decide decls call (parts_told decls call (operands.Picture p) weights)
+picture-decide decls call p weights given valid = sym (whole-part decls call (Pictured p.entries p.arena) (on-picture call.op given) valid)
 
 -- the weights of what is too heavy
 weight-by : (given : Gives) (places : List Place) (weight : ℕ) → part_weight (weighed_by given places weight) ≡ weight

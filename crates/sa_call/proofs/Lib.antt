@@ -2,6 +2,10 @@ pub mod ColumnLemmas
 pub mod CountLemmas
 pub mod DecideLemmas
 pub mod MoveLemmas
+pub mod OpLemmas
 pub mod PartLemmas
 pub mod RefusalLemmas
+pub mod RowLemmas
+pub mod RuleLemmas
 pub mod ValidLemmas
+pub mod WalkLemmas

@@ -1,19 +1,19 @@
 -- What was read, told by descriptor: it has the columns and the weight of what was read by operand.
-use Rattle.std.proofs.Common.{◌≡◌, ℕ, zero, suc, ◌+◌, ◌*◌, ◌<◌, ◌≤◌, eqb, nat_lt, Bool, true, false, cond, List, [], ◌∷◌, ◌++◌, length, map, get_or, take, drop, refl, sym, ap, ◌∙◌, arith, inl, inr}
+use Rattle.std.proofs.Common.{◌≡◌, ℤ, ℕ, zero, suc, ◌+◌, ◌*◌, ◌<◌, ◌≤◌, eqb, nat_lt, Bool, true, false, cond, List, [], ◌∷◌, ◌++◌, length, map, get_or, take, drop, refl, sym, ap, ◌∙◌, arith, inl, inr}
 use Rattle.std.specs.List.{AllByRecursion, list_all, list_any, filter, count_by, sum_by, zip, range_with_len}
 use Rattle.std.proofs.lemmas.Bool.{and_parts, or_cases, or_left, or_right, eqb-true, eqb-false, eq-eqb, ne_eqb, false≢true, ltb-true}
 use Rattle.std.proofs.lemmas.List.{length-map, take_at, drop_at}
 use Rattle.std.proofs.lemmas.List.FromFn.{length-map-range_with_len}
 use Rattle.std.proofs.lemmas.List.Sums.{sum_by-cons, sum_by-append}
 use Rattle.std.proofs.lemmas.Slice.Zip.{length-zip, seconds-zip}
-use Rattle.sa_base.specs.Items.{Item}
+use Rattle.sa_base.specs.Items.{Item, IntegerItem}
 use Rattle.sa_base.specs.Deeds.{Place, Part}
 use Rattle.sa_text.specs.Values.{item_of, value_weight}
 use Rattle.sa_text.specs.declared.value.Value.{Value}
 use Rattle.sa_text.specs.declared.value.Value.TheVariants.{Missing, Of}
 use Rattle.sa_plain.specs.Items.{count_of, items_of, items_weight}
 use Rattle.sa_plain.specs.declared.items.Items.{Items}
-use Rattle.sa_plain.specs.declared.items.Items.TheVariants.{Values}
+use Rattle.sa_plain.specs.declared.items.Items.TheVariants.{Values, Ints}
 use Rattle.sa_view.specs.Views.{places_of, place_at, fits}
 use Rattle.sa_view.specs.declared.view.View.{View}
 use Rattle.sa_call.specs.declared.call.Operand.{Operand}
@@ -124,6 +124,7 @@ length-places decls v = length-map (places_of v) (place_in decls v) ∙ length-m
 
 length-items : (items : Items) → length (items_of items) ≡ count_of items
 length-items (Values vs) = length-map vs item_of
+length-items (Ints ns) = length-map ns (λ n. IntegerItem n)
 
 abbrev beside : Declared → View → Items → List (Place × Item)
 beside decls v items = zip (places_in decls v) (items_of items)
@@ -145,8 +146,13 @@ weight-item : (v : Value) → item_weight (item_of v) ≡ value_weight v
 weight-item Missing = refl
 weight-item (Of text) = refl
 
+weight-ints : (ns : List ℤ) → sum_by item_weight (map (λ n. IntegerItem n) ns) ≡ 16 * length ns
+weight-ints [] = omega arith
+weight-ints (n ∷ ns) = let cons = sum_by-cons item_weight (IntegerItem n) (map (λ m. IntegerItem m) ns) in let rest = weight-ints ns in omega arith
+
 weight-items : (items : Items) → sum_by item_weight (items_of items) ≡ items_weight items
 weight-items (Values vs) = sum_by-map item_weight item_of vs ∙ ap (λ (f : Value → ℕ). sum_by f vs) (λ i v. weight-item v i)
+weight-items (Ints ns) = weight-ints ns
 
 weight-beside : (decls : Declared) (v : View) (items : Items) → count_of items ≡ v.count → sum_by (λ (p : Place × Item). item_weight p.1) (beside decls v items) ≡ items_weight items
 weight-beside decls v items same =

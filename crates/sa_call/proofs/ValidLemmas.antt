@@ -1,5 +1,5 @@
 -- Calls on the one array of a descriptor, which has 20 entries, are valid.
-use Rattle.std.proofs.Common.{◌≡◌, inl, inr, ℕ, ◌≤◌, eqb, nat_lt, Bool, true, false, ◌&&◌, ◌||◌, cond, List, [], ◌∷◌, length, Some, None, refl, sym, ap, ◌∙◌, subst}
+use Rattle.std.proofs.Common.{◌≡◌, inl, inr, ℕ, ◌≤◌, eqb, nat_lt, Bool, true, false, ◌&&◌, ◌||◌, cond, List, [], ◌∷◌, ◌++◌, length, Some, None, refl, sym, ap, ◌∙◌, subst}
 use Rattle.std.specs.List.{AllByRecursion}
 use Rattle.std.specs.Option.{option_and_then}
 use Rattle.std.proofs.lemmas.Bool.{and_from, or_cases, eqb-true, eq-eqb}
@@ -18,8 +18,8 @@ use Rattle.sa_call.specs.declared.form.Into.TheVariants as into
 use Rattle.sa_call.specs.declared.form.Sort.TheVariants as sort
 use Rattle.sa_call.specs.Calls.{is_length_of}
 use Rattle.sa_call.specs.Decls.{Declared, length_at}
-use Rattle.sa_call.specs.Forms.{entry, descr_of}
-use Rattle.sa_call.specs.Valid.{IsCall, is_view_of}
+use Rattle.sa_call.specs.Forms.{descr_of, entry}
+use Rattle.sa_call.specs.Valid.{IsCall, are_of, are_values, is_view_of}
 use Rattle.sa_call.proofs.CountLemmas.{joined-one}
 
 abbrev twenty : ArrayDecl
@@ -51,9 +51,11 @@ fit-length n v fit = elim (or_cases (eqb n 1) (eqb n v.count) fit) [
 ]
 
 pub set-valid : (d : Declared) (items : Items) (v : View) → d.arrays ≡ twenty ∷ [] → v.array ≡ 0 → fits 20 v ≡ true → 1 ≤ count_of items → count_of items ≤ 8192
-    → AllByRecursion IsTextValue (values_of items) → (eqb (count_of items) 1 || eqb (count_of items) v.count) ≡ true → IsCall d (record { op = op.Set; operands = operand.Literal items ∷ []; out = Some v })
-set-valid d items v arrays array fit some few texts lengths = record {
+    → AllByRecursion IsTextValue (values_of items) → are_values items ≡ true → (eqb (count_of items) 1 || eqb (count_of items) v.count) ≡ true → IsCall d (record { op = op.Set; operands = operand.Literal items ∷ []; out = Some v })
+set-valid d items v arrays array fit some few texts values lengths = record {
   sorts = refl;
+  kinds = and_from (are_values items) true values refl;
+  rules = refl;
   output = refl;
   views = refl;
   into = view-valid d v arrays array fit;
@@ -66,6 +68,8 @@ pub copy-valid : (d : Declared) (v w : View) → d.arrays ≡ twenty ∷ [] → 
     → (eqb v.count 1 || eqb v.count w.count) ≡ true → IsCall d (record { op = op.Copy; operands = operand.View v ∷ []; out = Some w })
 copy-valid d v w arrays from from_fits array fit lengths = record {
   sorts = refl;
+  kinds = refl;
+  rules = refl;
   output = refl;
   views = and_from (is_view_of d v) true (view-valid d v arrays from from_fits) refl;
   into = view-valid d w arrays array fit;
@@ -77,6 +81,8 @@ copy-valid d v w arrays from from_fits array fit lengths = record {
 pub show-valid : (d : Declared) (v : View) → d.arrays ≡ twenty ∷ [] → v.array ≡ 0 → fits 20 v ≡ true → IsCall d (record { op = op.Show; operands = operand.View v ∷ []; out = None })
 show-valid d v arrays array fit = record {
   sorts = refl;
+  kinds = refl;
+  rules = refl;
   output = refl;
   views = and_from (is_view_of d v) true (view-valid d v arrays array fit) refl;
   into = refl;
@@ -85,13 +91,15 @@ show-valid d v arrays array fit = record {
   literals = (tt, tt);
 }
 
-pub whole-valid : (d : Declared) (o : Op) → length d.descrs ≡ 1 → (entry o).needs ≡ sort.Descr ∷ [] → (entry o).into ≡ into.Never → descr_of o ≡ Some 0 → IsCall d (record { op = o; operands = []; out = None })
-whole-valid d o one takes never first = record {
-  sorts = rw takes refl;
+pub whole-valid : (d : Declared) (o : Op) → length d.descrs ≡ 1 → (entry o).needs ≡ sort.Descr ∷ [] → (entry o).may ≡ [] → (entry o).into ≡ into.Never → (entry o).group ≡ None → descr_of o ≡ Some 0 → IsCall d (record { op = o; operands = []; out = None })
+whole-valid d o one takes alone never moves first = record {
+  sorts = ap (λ ss. are_of ss [] || are_of (ss ++ (entry o).may) []) takes;
+  kinds = refl;
   output = rw never refl;
   views = refl;
   into = refl;
   descr = rw (first, one) refl;
   lengths = refl;
+  rules = rw moves refl;
   literals = tt;
 }

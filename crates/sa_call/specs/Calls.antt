@@ -6,6 +6,7 @@ use Rattle.sa_plain.specs.Items.{count_of}
 use Rattle.sa_call.specs.declared.call.Operand.{Operand}
 use Rattle.sa_call.specs.declared.call.Operand.TheVariants as operand
 use Rattle.sa_call.specs.declared.call.Call.{Call}
+use Rattle.sa_call.specs.Decls.{Declared, home_of}
 
 -- how many items an operand has
 abbrev pub operand_count : Operand → ℕ
@@ -36,3 +37,17 @@ is_length_of out (Some n) = is_count n out
 -- the counts of operands and output have a length, and it is the output's
 abbrev pub lengths_fit : Call → Bool
 lengths_fit call = is_length_of call.out (broadcast (counts_of call))
+
+-- the arrays of the views of a call: of the operands in order, then of the output
+abbrev pub operand_arrays : List Operand → List ℕ
+operand_arrays [] = []
+operand_arrays (operand.View v ∷ os) = v.array ∷ operand_arrays os
+operand_arrays (operand.Literal items ∷ os) = operand_arrays os
+
+abbrev pub output_arrays : Option View → List ℕ
+output_arrays None = []
+output_arrays (Some out) = out.array ∷ []
+
+-- the descriptors of these arrays
+abbrev pub homes_in : Declared → Call → List ℕ
+homes_in decls call = map (home_of decls) (operand_arrays call.operands ++ output_arrays call.out)

@@ -1,9 +1,13 @@
 -- What a call makes of what it read: its results and its reply.
-use Rattle.std.specs.Prelude.{ℕ, nat_lt, Bool, false, not, List, map, Option, Some, None, Result, Ok, Err, if◌then◌else◌}
+use Rattle.std.specs.Prelude.{ℕ, nat_lt, Bool, false, not, List, [], map, Option, Some, None, Result, Ok, Err, if◌then◌else◌}
 use Rattle.sa_base.specs.Items.{Item}
 use Rattle.sa_base.specs.Deeds.{Part, Read, Weighed, Counted, Pictured, PictureWeighed}
 use Rattle.sa_text.specs.Values.{value_of}
-use Rattle.sa_descr.specs.Rules.{is_given, rule_at}
+use Rattle.sa_descr.specs.Missing.{miss_of}
+use Rattle.sa_descr.specs.Rules.{combination, is_given, rule_at, rules_of}
+use Rattle.sa_descr.specs.declared.descr.NaRule.{NaRule}
+use Rattle.sa_descr.specs.declared.descr.NaRule.TheVariants.{Absent, Nan, Other, Txt}
+use Rattle.sa_descr.specs.declared.missing.MissGroup.{MissGroup}
 use Rattle.sa_view.specs.declared.view.View.{View}
 use Rattle.sa_plain.specs.declared.items.Items.{Items}
 use Rattle.sa_plain.specs.declared.items.Items.TheVariants.{Values}
@@ -13,16 +17,18 @@ use Rattle.sa_call.specs.declared.reply.Refusal.TheVariants as refusal
 use Rattle.sa_call.specs.declared.reply.Reply.{Reply}
 use Rattle.sa_call.specs.declared.reply.Reply.TheVariants as reply
 use Rattle.sa_call.specs.declared.reply.Outcome.{Outcome}
-use Rattle.sa_call.specs.Calls.{elements_in}
+use Rattle.sa_call.specs.Calls.{elements_in, homes_in}
 use Rattle.sa_call.specs.Decls.{Declared, home_of}
-use Rattle.sa_call.specs.Elements.{elements, gathered}
-use Rattle.sa_call.specs.Forms.{descr_of}
+use Rattle.sa_call.specs.Elements.{Setting, elements, gathered}
+use Rattle.sa_call.specs.Forms.{descr_of, entry}
 use Rattle.sa_call.specs.Limits.{most_weight}
 use Rattle.sa_call.specs.Parts.{Parts, part_at, items_read, weight_read, columns_of}
 
 -- the number of a refusal in a report
 abbrev pub refusal_code : Refusal → ℕ
 refusal_code refusal.NoMissing = 1
+refusal_code refusal.MissingValue = 2
+refusal_code refusal.TooLong = 3
 refusal_code refusal.TooMuch = 4
 
 -- a call that is refused at an element changes nothing
@@ -33,6 +39,29 @@ refused_with cause at = record { results = None; reply = reply.Refused (refusal_
 abbrev pub forbids : Declared → Option View → Bool
 forbids decls None = false
 forbids decls (Some out) = not (is_given (rule_at (map (λ d. d.na) decls.descrs) (home_of decls out.array)))
+
+-- the rule of a call: the combination of those of its strings views, the output included
+abbrev pub rule_or_absent : Result NaRule (ℕ × ℕ) → NaRule
+rule_or_absent (Ok rule) = rule
+rule_or_absent (Err clash) = Absent
+
+abbrev pub rule_in : Declared → Call → NaRule
+rule_in decls call = rule_or_absent (combination (rules_of decls.descrs (homes_in decls call)))
+
+-- the text of a text rule
+abbrev pub text_of_rule : NaRule → List ℕ
+text_of_rule Absent = []
+text_of_rule Nan = []
+text_of_rule Other = []
+text_of_rule (Txt text) = text
+
+-- how a call of a group treats missing values under a rule
+abbrev pub setting_by : Option MissGroup → NaRule → Setting
+setting_by None rule = record { miss = None; blank = [] }
+setting_by (Some group) rule = record { miss = Some (miss_of group rule); blank = text_of_rule rule }
+
+abbrev pub setting_of : Declared → Call → Setting
+setting_of decls call = setting_by (entry call.op).group (rule_in decls call)
 
 -- items as a list of one kind
 abbrev pub items_from : List Item → Items
@@ -46,7 +75,7 @@ outcome_of (Some out) (Ok items) = record { results = Some (items_from items); r
 
 -- what comes of the items of the operands, which have this weight
 abbrev pub outcome_on : Declared → Call → ℕ → List (List Item) → Outcome
-outcome_on decls call weight columns = outcome_of call.out (gathered (forbids decls call.out) weight 0 (elements call.op columns (elements_in call)))
+outcome_on decls call weight columns = outcome_of call.out (gathered (forbids decls call.out) weight 0 (elements (setting_of decls call) call.op columns (elements_in call)))
 
 abbrev pub done : Reply → Outcome
 done answer = record { results = None; reply = answer }

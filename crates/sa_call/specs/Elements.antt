@@ -1,17 +1,26 @@
 -- The elements of a call: results or refusals, and the first that is refused.
-use Rattle.std.specs.Prelude.{ℕ, ◌+◌, nat_lt, Bool, true, false, ◌&&◌, List, [], ◌∷◌, map, Result, Ok, Err, if◌then◌else◌}
-use Rattle.std.specs.List.{range_with_len}
+use Rattle.std.specs.Prelude.{◌≡◌, ℕ, ◌+◌, nat_lt, Bool, true, false, ◌&&◌, List, [], ◌∷◌, map, Option, Some, None, Result, Ok, Err, if◌then◌else◌}
+use Rattle.std.specs.List.{list_any, range_with_len}
 use Rattle.sa_base.specs.Items.{Item, MissingItem, TextItem, IntegerItem, FlagItem, BytesItem, UnitsItem}
 use Rattle.sa_call.specs.declared.call.Op.{Op}
+use Rattle.sa_text.specs.Values.{item_of}
+use Rattle.sa_text.specs.declared.value.Value.{Value}
+use Rattle.sa_call.specs.declared.element.Stop.{Stop}
+use Rattle.sa_call.specs.declared.element.Stop.TheVariants as stop
 use Rattle.sa_call.specs.declared.reply.Refusal.{Refusal}
 use Rattle.sa_call.specs.declared.reply.Refusal.TheVariants as refusal
-use Rattle.sa_call.specs.Forms.{entry}
+use Rattle.sa_plain.specs.Items.{items_of}
+use Rattle.sa_plain.specs.declared.items.Items.{Items}
+use Rattle.sa_descr.specs.declared.missing.Miss.{Miss}
+use Rattle.sa_descr.specs.declared.missing.Miss.TheVariants.{Gone, AsText, No, Yes, Refuse}
+use Rattle.sa_call.specs.Forms.{Row, entry, item_in}
 use Rattle.sa_call.specs.Limits.{most_weight}
 use Rattle.sa_call.specs.Parts.{item_weight}
 
--- the elements of a call, this many, each by its entry in the table
-abbrev pub elements : Op → List (List Item) → ℕ → List (Result Item Refusal)
-elements op columns count = map (λ k. (entry op).element (record { columns = columns; at = k })) (range_with_len 0 count)
+-- how a call treats missing values: what comes of an element with a missing text, none where values are moved as they are, and the text that stands for a missing one
+pub record Setting : Type 0 where
+  pub miss : Option Miss
+  pub blank : List ℕ
 
 abbrev pub is_missing_item : Item → Bool
 is_missing_item MissingItem = true
@@ -20,6 +29,50 @@ is_missing_item (IntegerItem n) = false
 is_missing_item (FlagItem b) = false
 is_missing_item (BytesItem bytes) = false
 is_missing_item (UnitsItem units) = false
+
+-- an element in which a text is missing, or none is, and what is computed of it
+abbrev pub missed : Miss → Result Item Refusal → Result Item Refusal
+missed Gone computed = Ok MissingItem
+missed AsText computed = computed
+missed No computed = Ok (FlagItem false)
+missed Yes computed = Ok (FlagItem true)
+missed Refuse computed = Err refusal.MissingValue
+
+-- a missing text gives a text, a missing value or a refusal
+abbrev pub gives_texts : Miss → Bool
+gives_texts Gone = true
+gives_texts AsText = true
+gives_texts No = false
+gives_texts Yes = false
+gives_texts Refuse = true
+
+abbrev pub treated : Option Miss → Bool → Result Item Refusal → Result Item Refusal
+treated None missing computed = computed
+treated (Some miss) missing computed = if missing then missed miss computed else computed
+
+-- an operand has a missing item at the element's place
+abbrev pub any_missing : Row → Bool
+any_missing row = list_any (λ items. is_missing_item (item_in items row.at)) row.columns
+
+abbrev pub item_is_missing : Items → ℕ → Bool
+item_is_missing items at = is_missing_item (item_in (items_of items) at)
+
+-- one element of a call, by its entry in the table
+abbrev pub element_of : Setting → Op → Row → Result Item Refusal
+element_of s op row = treated s.miss (any_missing row) ((entry op).element row)
+
+-- the elements of a call, this many
+abbrev pub elements : Setting → Op → List (List Item) → ℕ → List (Result Item Refusal)
+elements s op columns count = map (λ k. element_of s op (record { columns = columns; at = k; blank = s.blank })) (range_with_len 0 count)
+
+-- want of memory apart, an element is computed as it is defined
+abbrev pub StopsElement : Stop → Result Item Refusal → Type 0
+StopsElement stop.Memory defined = Unit {0}
+StopsElement (stop.Refused cause) defined = defined ≡ Err cause
+
+abbrev pub GivesElement : Result Value Stop → Result Item Refusal → Type 0
+GivesElement (Ok value) defined = defined ≡ Ok (item_of value)
+GivesElement (Err error) defined = StopsElement error defined
 
 -- a result that follows this weight is refused where it is missing and the output forbids that, and where the weight passes its limit with it
 abbrev pub admitted : Bool → ℕ → Item → Result Item Refusal

@@ -12,3 +12,4 @@ pub mod Parts
 pub mod Refusals
 pub mod Told
 pub mod Valid
+pub mod Walks

@@ -6,6 +6,7 @@ use Rattle.sa_base.specs.Deeds.{Place, Part, Read, Weighed, Counted, Pictured, P
 use Rattle.sa_view.specs.Views.{places_of}
 use Rattle.sa_view.specs.declared.view.View.{View}
 use Rattle.sa_plain.specs.Items.{count_of, items_of}
+use Rattle.sa_call.specs.Valid.{all_values}
 use Rattle.sa_plain.specs.declared.items.Items.{Items}
 use Rattle.sa_call.specs.declared.call.Operand.{Operand}
 use Rattle.sa_call.specs.declared.call.Operand.TheVariants as operand
@@ -92,9 +93,9 @@ view_counts [] = []
 view_counts (operand.View v ∷ os) = v.count ∷ view_counts os
 view_counts (operand.Literal items ∷ os) = view_counts os
 
--- Operands are those of a call: a list for each view, as long as it; statistics; a picture; or the weight of what weighs too much.
+-- Operands are those of a call: a list of values for each view, as long as it; statistics; a picture; or the weight of what weighs too much.
 abbrev pub AreOperands : Call → Operands → Type 0
-AreOperands call (operands.Items lists) = ((entry call.op).gives ≡ gives.Same) × (map count_of lists ≡ view_counts call.operands)
+AreOperands call (operands.Items lists) = ((entry call.op).gives ≡ gives.Same) × (map count_of lists ≡ view_counts call.operands) × (all_values lists ≡ true)
 AreOperands call (operands.Stats stats) = (entry call.op).gives ≡ gives.Statistics
 AreOperands call (operands.Picture p) = ((entry call.op).gives ≡ gives.Picture) × (length p.entries ≤ most_entries)
 AreOperands call (operands.Big weight) = most_weight < weight

@@ -1,11 +1,13 @@
 -- Calls that are valid under declarations, by the table of calls.
-use Rattle.std.specs.Prelude.{◌≡◌, ◌≤◌, ℕ, nat_lt, Bool, true, false, ◌&&◌, List, [], ◌∷◌, length, Option, Some, None, is_some, is_none}
-use Rattle.std.specs.List.{AllByRecursion, list_all}
-use Rattle.sa_text.specs.Values.{IsTextValue}
+use Rattle.std.specs.Prelude.{◌≡◌, ◌≤◌, ℕ, nat_lt, Bool, true, false, ◌&&◌, ◌||◌, not, List, [], ◌∷◌, ◌++◌, length, take, filter, Option, Some, None, is_some, is_none, is_ok}
+use Rattle.std.specs.List.{AllByRecursion, list_all, list_any}
+use Rattle.sa_text.specs.Values.{IsTextValue, is_missing}
 use Rattle.sa_view.specs.Views.{fits}
 use Rattle.sa_view.specs.declared.view.View.{View}
-use Rattle.sa_plain.specs.Items.{count_of, values_of}
+use Rattle.sa_plain.specs.Items.{count_of, values_in, values_of}
 use Rattle.sa_plain.specs.declared.items.Items.{Items}
+use Rattle.sa_descr.specs.Rules.{combination, rules_of}
+use Rattle.sa_call.specs.declared.call.Op.{Op}
 use Rattle.sa_call.specs.declared.call.Operand.{Operand}
 use Rattle.sa_call.specs.declared.call.Operand.TheVariants as operand
 use Rattle.sa_call.specs.declared.call.Call.{Call}
@@ -13,37 +15,69 @@ use Rattle.sa_call.specs.declared.form.Sort.{Sort}
 use Rattle.sa_call.specs.declared.form.Sort.TheVariants as sort
 use Rattle.sa_call.specs.declared.form.Into.{Into}
 use Rattle.sa_call.specs.declared.form.Into.TheVariants as into
-use Rattle.sa_call.specs.Calls.{lengths_fit}
+use Rattle.sa_call.specs.Calls.{homes_in, lengths_fit}
 use Rattle.sa_call.specs.Decls.{Declared, length_at}
-use Rattle.sa_call.specs.Forms.{entry, descr_of}
+use Rattle.sa_call.specs.Forms.{entry, descr_of, is_operand}
 use Rattle.sa_call.specs.Limits.{most_items}
 
--- the sorts that stand for an operand; a descriptor stands in the call itself
-abbrev pub is_operand : Sort → Bool
-is_operand sort.View = true
-is_operand sort.Literal = true
-is_operand sort.Descr = false
-
+-- an operand has the spelling of its sort: a view, a list, or any of the two
 abbrev pub is_of : Sort → Operand → Bool
 is_of sort.View (operand.View v) = true
 is_of sort.View (operand.Literal items) = false
 is_of sort.Literal (operand.View v) = false
 is_of sort.Literal (operand.Literal items) = true
+is_of sort.Texts o = true
+is_of sort.Numbers o = true
+is_of sort.Fill o = false
 is_of sort.Descr o = false
 
--- each operand is of its sort
+-- an operand has the kind of its sort: texts of which none is missing, numbers, or values
+abbrev pub has_missing : Items → Bool
+has_missing items = list_any is_missing (values_of items)
+
+abbrev pub are_values : Items → Bool
+are_values items = is_some (values_in items)
+
+abbrev pub all_values : List Items → Bool
+all_values lists = list_all are_values lists
+
+abbrev pub is_kind : Sort → Operand → Bool
+is_kind sort.View o = true
+is_kind sort.Literal (operand.View v) = true
+is_kind sort.Literal (operand.Literal items) = are_values items
+is_kind sort.Texts (operand.View v) = true
+is_kind sort.Texts (operand.Literal items) = are_values items && not (has_missing items)
+is_kind sort.Numbers (operand.View v) = false
+is_kind sort.Numbers (operand.Literal items) = not (are_values items)
+is_kind sort.Fill o = true
+is_kind sort.Descr o = true
+
+-- there is an operand for each of these sorts, and each passes
+abbrev pub all_are : (Sort → Operand → Bool) → List Sort → List Operand → Bool
+all_are test [] [] = true
+all_are test [] (o ∷ os) = false
+all_are test (s ∷ ss) [] = false
+all_are test (s ∷ ss) (o ∷ os) = test s o && all_are test ss os
+
 abbrev pub are_of : List Sort → List Operand → Bool
-are_of [] [] = true
-are_of [] (o ∷ os) = false
-are_of (sort.Descr ∷ ss) os = are_of ss os
-are_of (sort.View ∷ ss) [] = false
-are_of (sort.View ∷ ss) (o ∷ os) = is_of sort.View o && are_of ss os
-are_of (sort.Literal ∷ ss) [] = false
-are_of (sort.Literal ∷ ss) (o ∷ os) = is_of sort.Literal o && are_of ss os
+are_of sorts operands = all_are is_of (filter is_operand sorts) operands
+
+-- the operands are those of the call, with or without those that may be left out
+abbrev pub fit_table : Op → List Operand → Bool
+fit_table o operands = are_of (entry o).needs operands || are_of ((entry o).needs ++ (entry o).may) operands
+
+-- each operand has the kind that the table asks for
+abbrev pub kinds_fit : Op → List Operand → Bool
+kinds_fit o operands = all_are is_kind (take (length operands) (filter is_operand ((entry o).needs ++ (entry o).may))) operands
+
+-- the rules of the call's views combine, where missing values are not moved as they are
+abbrev pub rules_fit : Declared → Call → Bool
+rules_fit d call = is_none (entry call.op).group || is_ok (combination (rules_of d.descrs (homes_in d call)))
 
 -- an output stands where it must, and none where it never does
 abbrev pub output_stands : Into → Option View → Bool
 output_stands into.Never out = is_none out
+output_stands into.May out = true
 output_stands into.Must out = is_some out
 output_stands into.First out = is_some out
 
@@ -73,12 +107,14 @@ abbrev pub IsLiteralOperand : Operand → Type 0
 IsLiteralOperand (operand.View v) = Unit {0}
 IsLiteralOperand (operand.Literal items) = IsLiteral items
 
--- The call is valid under these declarations: operands and output are those that the table asks for, views fit declared arrays, a descriptor is declared, and the counts fit.
+-- The call is valid under these declarations: operands and output are those that the table asks for, views fit declared arrays, a descriptor is declared, the counts fit, and the rules combine.
 pub record IsCall (d : Declared) (call : Call) : Type 0 where
-  pub sorts : are_of (entry call.op).needs call.operands ≡ true
+  pub sorts : fit_table call.op call.operands ≡ true
+  pub kinds : kinds_fit call.op call.operands ≡ true
   pub output : output_stands (entry call.op).into call.out ≡ true
   pub views : list_all (is_operand_of d) call.operands ≡ true
   pub into : is_output_of d call.out ≡ true
   pub descr : is_descr_of d (descr_of call.op) ≡ true
   pub lengths : lengths_fit call ≡ true
+  pub rules : rules_fit d call ≡ true
   pub literals : AllByRecursion IsLiteralOperand call.operands

@@ -11,6 +11,24 @@ pub enum Op {
     Copy,
     /// Answers the items of a view.
     Show,
+    /// Makes two texts one.
+    Add,
+    /// Repeats a text.
+    Multiply,
+    /// Puts this fill on both sides of a text, up to a width.
+    Center(char),
+    /// Puts this fill behind a text, up to a width.
+    Ljust(char),
+    /// Puts this fill in front of a text, up to a width.
+    Rjust(char),
+    /// Puts zeros in front of a text and behind its sign, up to a width.
+    Zfill,
+    /// Takes spaces, or the code points of a text, away at both ends of a text.
+    Strip,
+    /// Takes them away in front.
+    Lstrip,
+    /// Takes them away at the end.
+    Rstrip,
     /// Answers the statistics of the descriptor of this number.
     Stats(u8),
     /// Answers the picture of the descriptor of this number: its entries and its arena.

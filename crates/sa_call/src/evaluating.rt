@@ -1,15 +1,17 @@
-ghost use Rattle.std.specs.Prelude.{ℕ, ◌≡◌, ◌≤◌, ◌∷◌, [], List, length, map, nat_lt, IfOk, Ok, if◌then◌else◌};
+ghost use Rattle.std.specs.Prelude.{ℕ, ◌≡◌, ◌≤◌, List, length, map, nat_lt, IfOk, Ok, Some, true, if◌then◌else◌};
 ghost use Rattle.std.specs.List.{All};
-ghost use Rattle.sa_plain.specs.Items.{count_of, items_of, items_weight};
+ghost use Rattle.sa_text.specs.Values.{item_of};
+ghost use Rattle.sa_plain.specs.Items.{count_of, items_of};
+ghost use Rattle.sa_descr.specs.declared.missing.MissGroup.TheVariants.{Makes};
 ghost use Rattle.sa_call.specs.Calls.{elements_in, operand_count};
-ghost use Rattle.sa_call.specs.Columns.{columns_read, outcome_read};
+ghost use Rattle.sa_call.specs.Columns.{columns_read, columns_weight, outcome_read};
 ghost use Rattle.sa_call.specs.Decides.{decide, done, outcome_of, outcome_on, refused_with};
 ghost use Rattle.sa_call.specs.Decls.{IsDeclared};
-ghost use Rattle.sa_call.specs.Forms.{entry};
+ghost use Rattle.sa_call.specs.Forms.{entry, IsMoving};
 ghost use Rattle.sa_call.specs.Limits.{most_entries, most_items, most_weight};
 ghost use Rattle.sa_call.specs.Parts.{picture_weight};
 ghost use Rattle.sa_call.specs.Told.{parts_told, view_counts, AreOperands, AreWeights};
-ghost use Rattle.sa_call.specs.Valid.{IsCall};
+ghost use Rattle.sa_call.specs.Valid.{IsCall, all_values};
 ghost use Rattle.sa_call.specs.declared.form.Gives.TheVariants.{Same};
 ghost use Rattle.sa_call.specs.declared.reply.Refusal.TheVariants.{TooMuch};
 ghost use Rattle.sa_call.specs.declared.reply.Reply.TheVariants.{Pictured};
@@ -17,11 +19,16 @@ ghost use Rattle.sa_call.specs.declared.reply.Reply.TheVariants.{Pictured};
 use crate::call::{Call, Operand};
 use crate::columns::{columns, columns_weight};
 use crate::decls::Decls;
+use crate::element::Setting;
 use crate::operands::{Operands, Picture};
 use crate::refusals::{MOST_WEIGHT, forbids, results_refusal};
 use crate::reply::{Outcome, Refusal, Reply};
+use crate::rules::{rule_in, text_of_rule};
+use crate::walking::{Halt, walk};
 use sa_base::Memory;
+use sa_descr::{MissGroup, miss_of};
 use sa_plain::Items;
+use sa_text::ValueList;
 use sa_view::broadcast;
 use std::alloc::Global;
 
@@ -68,19 +75,21 @@ fn evaluate_items(
 ) -> Result<Outcome, Memory>
     requires declared { IsDeclared decls.now }
     requires call { IsCall decls.now call.now }
-    requires moves { (entry call.now.op).gives ≡ Same }
+    requires items { (entry call.now.op).gives ≡ Same }
     requires lists { map count_of lists.now ≡ view_counts call.now.operands }
+    requires values { all_values lists.now ≡ true }
     ensures { IfOk result (λ o. o ≡ outcome_read decls.now call.now (columns_read call.now.operands lists.now)) }
 {
     let columns = columns(alloc, call.operands.as_slice(), lists)?;
-    let weight = columns_weight(columns.as_slice());
+    let columns = columns.as_slice();
+    let weight = columns_weight(columns);
     if weight > MOST_WEIGHT {
         return Ok(Outcome::refused(Refusal::TooMuch, 0));
     }
-    let Some(column) = columns.first() else {
-        unreachable!()
-    };
-    moved(alloc, decls, call, column, weight)
+    match call.op.form().group {
+        None => moved(alloc, decls, call, columns, weight),
+        Some(group) => made(alloc, decls, call, group, columns, weight),
+    }
 }
 
 /// What comes of a call that moves the items of its one operand, which have this weight.
@@ -88,35 +97,65 @@ fn moved(
     alloc: Global,
     decls: &Decls,
     call: &Call,
-    column: &Items,
+    columns: &[&Items],
     weight: u64,
 ) -> Result<Outcome, Memory>
     requires declared { IsDeclared decls.now }
     requires call { IsCall decls.now call.now }
-    requires moves { (entry call.now.op).gives ≡ Same }
-    requires operand { map operand_count call.now.operands ≡ count_of column.now ∷ [] }
-    requires weight { weight ≡ items_weight column.now }
+    requires moves { IsMoving call.now.op }
+    requires counts { map (λ c. count_of c.now) columns.now ≡ map operand_count call.now.operands }
+    requires values { all_values (map (λ c. c.now) columns.now) ≡ true }
     requires light { weight ≤ most_weight }
-    ensures { IfOk result (λ o. o ≡ outcome_on decls.now call.now weight (items_of column.now ∷ [])) }
+    ensures { IfOk result (λ o. o ≡ outcome_on decls.now call.now weight (map (λ c. items_of c.now) columns.now)) }
 {
-    let count = elements_in(alloc, call)? as usize;
-    let results = column.stretched(alloc, count)?;
-    let results_weight = if column.len() == 1 {
-        count as u64 * weight
-    } else {
-        weight
+    let Some(Items::Values(values)) = columns.first() else {
+        unreachable!()
     };
+    let count = elements_in(alloc, call)? as usize;
+    let results = values.stretched(alloc, count)?;
     let forbidden = forbids(decls, &call.out);
-    match results_refusal(forbidden, weight, results.as_value_list(), results_weight) {
+    match results_refusal(forbidden, weight, &results) {
         Some((cause, at)) => Ok(Outcome::refused(cause, at)),
         None => Ok(given(call, results)),
     }
 }
 
-/// Results that are not refused: for the output, or the answer where there is none.
-fn given(call: &Call, results: Items) -> Outcome
-    ensures { result ≡ outcome_of call.now.out (Ok (items_of results)) }
+/// What comes of a call of a group of missing values, whose operands have this weight.
+fn made(
+    alloc: Global,
+    decls: &Decls,
+    call: &Call,
+    group: MissGroup,
+    columns: &[&Items],
+    weight: u64,
+) -> Result<Outcome, Memory>
+    requires declared { IsDeclared decls.now }
+    requires call { IsCall decls.now call.now }
+    requires group { (entry call.now.op).group ≡ Some group }
+    requires makes { group ≡ Makes }
+    requires light { weight ≤ most_weight }
+    ensures { IfOk result (λ o. o ≡ outcome_on decls.now call.now weight (map (λ c. items_of c.now) columns.now)) }
 {
+    let count = elements_in(alloc, call)?;
+    let rule = rule_in(alloc, decls, call)?;
+    let setting = Setting {
+        op: call.op,
+        miss: miss_of(group, &rule),
+        blank: text_of_rule(alloc, rule)?,
+        forbidden: forbids(decls, &call.out),
+    };
+    match walk(alloc, &setting, columns, weight, count) {
+        Ok(results) => Ok(given(call, results)),
+        Err(Halt::Refused(cause, at)) => Ok(Outcome::refused(cause, at)),
+        Err(Halt::Memory) => Err(Memory),
+    }
+}
+
+/// Results that are not refused: for the output, or the answer where there is none.
+fn given(call: &Call, results: ValueList) -> Outcome
+    ensures { result ≡ outcome_of call.now.out (Ok (map item_of results)) }
+{
+    let results = Items::Values(results);
     match call.out {
         Some(_) => Outcome {
             results: Some(results),

@@ -9,12 +9,16 @@
 mod call;
 mod columns;
 mod decls;
+mod element;
 mod evaluating;
 mod form;
 mod laws;
 mod operands;
 mod refusals;
 mod reply;
+mod row;
+mod rules;
+mod walking;
 
 pub use call::{Call, CallList, Op, Operand, OperandList, TaskList};
 pub use decls::{ArrayDecl, Decls, Kind};
@@ -24,7 +28,8 @@ pub use laws::parts_decide;
 pub use operands::{EntryList, Operands, Picture};
 pub use refusals::MOST_WEIGHT;
 pub use reply::{Outcome, Refusal, Reply};
-pub use sa_plain::{ByteList, Items, ItemsList};
+pub use rules::{home_of, homes_in};
+pub use sa_plain::{ByteList, IntList, Items, ItemsList};
 pub use sa_text::ValueList;
 pub use sa_view::View;
 

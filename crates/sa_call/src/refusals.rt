@@ -29,7 +29,7 @@ pub fn forbids(decls: &Decls, out: &Option<View>) -> bool
 }
 
 /// Why a result that follows this weight is refused, if it is.
-fn refusal_of(forbidden: bool, weight: u64, value: &Value) -> Option<Refusal>
+pub(crate) fn refusal_of(forbidden: bool, weight: u64, value: &Value) -> Option<Refusal>
     requires { weight ≤ most_weight }
     ensures { result ≡ refusal_of forbidden weight value.now }
 {
@@ -44,19 +44,12 @@ fn refusal_of(forbidden: bool, weight: u64, value: &Value) -> Option<Refusal>
 
 /// Why results are refused that follow this weight: the first that is missing where that is forbidden, or
 /// with which the weight passes its limit. Where neither can be, no value is looked at.
-pub fn results_refusal(
-    forbidden: bool,
-    weight: u64,
-    results: &ValueList,
-    results_weight: u64,
-) -> Option<(Refusal, u32)>
-    requires weighed { results_weight ≡ weight_of results.now }
+pub fn results_refusal(forbidden: bool, weight: u64, results: &ValueList) -> Option<(Refusal, u32)>
     requires light { weight ≤ most_weight }
     requires few { length results.now ≤ 8192 }
-    requires most { results_weight ≤ 8192 * most_weight }
     ensures { result ≡ refused forbidden weight 0 results.now }
 {
-    if !forbidden && weight + results_weight <= MOST_WEIGHT {
+    if !forbidden && weight + results.weight() <= MOST_WEIGHT {
         return None;
     }
     first_refusal(forbidden, weight, results)

@@ -10,6 +10,10 @@ use sa_plain::Items;
 pub enum Refusal {
     /// A result is missing, and the output's descriptor has no missing values.
     NoMissing,
+    /// A text is missing, and the rule of the call says so.
+    MissingValue,
+    /// A text would have more than 65,536 bytes.
+    TooLong,
     /// What the call reads and gives weighs more than 1,048,576.
     TooMuch,
 }
@@ -21,6 +25,8 @@ impl Refusal {
     {
         match self {
             Refusal::NoMissing => 1,
+            Refusal::MissingValue => 2,
+            Refusal::TooLong => 3,
             Refusal::TooMuch => 4,
         }
     }

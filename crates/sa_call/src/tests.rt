@@ -1,9 +1,10 @@
-ghost use Rattle.std.specs.Prelude.{◌≡◌, ◌≤◌, ◌==◌, ◌||◌, ◌∷◌, [], length, pos, Some, None, IfOk};
+ghost use Rattle.std.specs.Prelude.{◌≡◌, ◌≤◌, ◌==◌, ◌||◌, ◌∷◌, [], length, pos, true, Some, None, IfOk};
 ghost use Rattle.std.specs.List.{AllByRecursion};
 ghost use Rattle.sa_text.specs.Values.{IsTextValue};
 ghost use Rattle.sa_plain.specs.Items.{count_of, values_of};
 ghost use Rattle.sa_call.specs.Forms.{descr_of, entry};
 ghost use Rattle.sa_call.specs.Told.{AreOperands};
+ghost use Rattle.sa_call.specs.Valid.{are_values};
 ghost use Rattle.sa_call.specs.declared.decls.Kind.TheVariants.{Str};
 ghost use Rattle.sa_call.specs.declared.form.Into.TheVariants.{Never};
 ghost use Rattle.sa_call.specs.declared.form.Sort.TheVariants.{Descr as DescrSort};
@@ -17,10 +18,19 @@ use std::test::Fail;
 
 #[test]
 fn words_mean_calls(rt: HostRuntime) {
-    let words: [(&[u8], Option<Op>); 6] = [
+    let words: [(&[u8], Option<Op>); 15] = [
         (b"set", Some(Op::Set)),
         (b"copy", Some(Op::Copy)),
         (b"show", Some(Op::Show)),
+        (b"add", Some(Op::Add)),
+        (b"multiply", Some(Op::Multiply)),
+        (b"center", Some(Op::Center(' '))),
+        (b"ljust", Some(Op::Ljust(' '))),
+        (b"rjust", Some(Op::Rjust(' '))),
+        (b"zfill", Some(Op::Zfill)),
+        (b"strip", Some(Op::Strip)),
+        (b"lstrip", Some(Op::Lstrip)),
+        (b"rstrip", Some(Op::Rstrip)),
         (b"stats", Some(Op::Stats(0))),
         (b"image", Some(Op::Image(0))),
         (b"sets", None),
@@ -30,20 +40,35 @@ fn words_mean_calls(rt: HostRuntime) {
     }
     assert_eq!(rt; Op::Image(0).on_descr(3), Op::Image(3));
     assert_eq!(rt; Op::Copy.on_descr(3), Op::Copy);
+    assert_eq!(rt; Op::Ljust(' ').with_fill('é'), Op::Ljust('é'));
+    assert_eq!(rt; Op::Strip.with_fill('é'), Op::Strip);
 }
 
 #[test]
 fn calls_have_their_forms(rt: HostRuntime) {
     let forms = [
-        (Op::Set, Sort::Literal, Into::First, Gives::Same),
-        (Op::Copy, Sort::View, Into::Must, Gives::Same),
-        (Op::Show, Sort::View, Into::Never, Gives::Same),
-        (Op::Stats(1), Sort::Descr, Into::Never, Gives::Statistics),
-        (Op::Image(1), Sort::Descr, Into::Never, Gives::Picture),
+        (Op::Set, Sort::Literal, 1, 0, Into::First, Gives::Same),
+        (Op::Copy, Sort::View, 1, 0, Into::Must, Gives::Same),
+        (Op::Show, Sort::View, 1, 0, Into::Never, Gives::Same),
+        (Op::Add, Sort::Texts, 2, 0, Into::May, Gives::Same),
+        (Op::Multiply, Sort::Texts, 2, 0, Into::May, Gives::Same),
+        (Op::Center('x'), Sort::Texts, 2, 1, Into::May, Gives::Same),
+        (Op::Zfill, Sort::Texts, 2, 0, Into::May, Gives::Same),
+        (Op::Rstrip, Sort::Texts, 1, 1, Into::May, Gives::Same),
+        (
+            Op::Stats(1),
+            Sort::Descr,
+            1,
+            0,
+            Into::Never,
+            Gives::Statistics,
+        ),
+        (Op::Image(1), Sort::Descr, 1, 0, Into::Never, Gives::Picture),
     ];
-    for (op, need, output, gives) in forms {
+    for (op, need, needs, may, output, gives) in forms {
         let form = op.form();
-        assert!(rt; form.needs == [need].as_slice());
+        assert!(rt; form.needs.first() == Some(&need) && form.needs.len() == needs);
+        assert!(rt; form.may.len() == may);
         assert!(rt; form.into == output);
         assert!(rt; form.gives == gives);
     }
@@ -78,6 +103,7 @@ fn front(count: u32) -> View
 fn texts(alloc: Global, size: usize, count: usize) -> Result<Items, Fail>
     ensures count { IfOk result (λ items. count_of items ≡ count) }
     ensures texts { IfOk result (λ items. AllByRecursion IsTextValue (values_of items)) }
+    ensures values { IfOk result (λ items. are_values items ≡ true) }
 {
     let text = Text::from_bytes(alloc, vec![in alloc; b'x'; size]?.as_slice())?;
     let one = ValueList::from_vec(vec![in alloc; Value::Of(text)]?);
@@ -88,6 +114,7 @@ fn texts(alloc: Global, size: usize, count: usize) -> Result<Items, Fail>
 fn missing_behind(alloc: Global) -> Result<Items, Fail>
     ensures count { IfOk result (λ items. count_of items ≡ 3) }
     ensures texts { IfOk result (λ items. AllByRecursion IsTextValue (values_of items)) }
+    ensures values { IfOk result (λ items. are_values items ≡ true) }
 {
     let text = Text::from_bytes(alloc, b"ab")?;
     let values = vec![in alloc; Value::Of(text), Value::Missing, Value::Missing]?;
@@ -103,7 +130,8 @@ fn fit(count: usize, places: u32) -> bool
 
 /// What comes of setting the first places of the array to items. None where the call is not valid.
 fn set(alloc: Global, na: NaRule, items: Items, places: u32) -> Result<Option<Outcome>, Memory>
-    requires { AllByRecursion IsTextValue (values_of items) }
+    requires texts { AllByRecursion IsTextValue (values_of items) }
+    requires values { are_values items ≡ true }
 {
     let decls = one_array(alloc, na)?;
     let out = front(places);
@@ -123,7 +151,8 @@ fn set(alloc: Global, na: NaRule, items: Items, places: u32) -> Result<Option<Ou
 /// What comes of copying items from the first places of the array to its first places. None where the
 /// call is not valid.
 fn copied(alloc: Global, items: Items, places: u32) -> Result<Option<Outcome>, Memory>
-    requires { count_of items ≤ 20 }
+    requires few { count_of items ≤ 20 }
+    requires values { are_values items ≡ true }
 {
     let decls = one_array(alloc, NaRule::Nan)?;
     let view = front(items.len() as u32);
@@ -143,7 +172,8 @@ fn copied(alloc: Global, items: Items, places: u32) -> Result<Option<Outcome>, M
 /// What comes of showing the first places of the array, where they have these items. None where the call
 /// is not valid.
 fn shown(alloc: Global, items: Items) -> Result<Option<Outcome>, Memory>
-    requires { count_of items ≤ 20 }
+    requires few { count_of items ≤ 20 }
+    requires values { are_values items ≡ true }
 {
     let decls = one_array(alloc, NaRule::Nan)?;
     let view = front(items.len() as u32);
@@ -162,7 +192,9 @@ fn shown(alloc: Global, items: Items) -> Result<Option<Outcome>, Memory>
 /// What comes of a call on the descriptor as a whole.
 fn whole(alloc: Global, op: Op, read: &Operands) -> Result<Outcome, Memory>
     requires takes { (entry op).needs ≡ DescrSort ∷ [] }
+    requires alone { (entry op).may ≡ [] }
     requires never { (entry op).into ≡ Never }
+    requires moves { (entry op).group ≡ None }
     requires first { descr_of op ≡ Some 0 }
     requires read { AreOperands (record { op = op; operands = []; out = None }) read.now }
 {

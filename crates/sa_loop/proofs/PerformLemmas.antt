@@ -31,7 +31,7 @@ use Rattle.sa_loop.specs.States.{array_in, opening, lengths_of}
 use Rattle.sa_loop.specs.Takes.{outcome_in}
 use Rattle.sa_loop.specs.Writes.{layout_written, world_after, writes_at, writes_told, written}
 use Rattle.sa_loop.proofs.GatheredLemmas.{as-many}
-use Rattle.sa_loop.proofs.ResultLemmas.{results-many}
+use Rattle.sa_loop.proofs.ResultLemmas.{results-many, results-values}
 use Rattle.sa_loop.proofs.RunLemmas.{world-more, outcomes-more, after-writes, IsAfter}
 use Rattle.sa_loop.proofs.SameLemmas.{Agree, outcome-same, layout-at, layouts-from}
 use Rattle.sa_loop.proofs.LastLemmas.{known-kept}
@@ -107,7 +107,7 @@ can-put decls stores calls call parts outcome is declared valid came = go call.o
         let below = home-declared decls v.array declared known.0 in
         let many = many-stores decls stores calls is in
         let given : (decide decls call parts).results ≡ Some items = ap (λ (o : Outcome). o.results) (sym came) ∙ at_results in
-        (omega arith, record { declared = declared; array = known.0; view = known.1; shape = shape-at decls stores calls (home_of decls v.array) is below }, results-many decls call parts v items valid at_out given)
+        (omega arith, record { declared = declared; array = known.0; view = known.1; shape = shape-at decls stores calls (home_of decls v.array) is below }, results-many decls call parts v items valid at_out given, results-values decls call parts v items at_out given)
 
 -- the world that the stores show is the play's, where descriptors are declared
 pub agree : (decls : Declared) (stores : List StoreValue) (calls : List Call) → IsRun decls stores calls → Agree decls (world_of (layout_in stores)) (play_world decls calls)

@@ -14,13 +14,13 @@ use Rattle.sa_call.specs.declared.call.Call.{Call}
 use Rattle.sa_call.specs.declared.reply.Refusal.{Refusal}
 use Rattle.sa_call.specs.declared.reply.Outcome.{Outcome}
 use Rattle.sa_call.specs.Calls.{counts_of, elements_in, is_length_of}
-use Rattle.sa_call.specs.Decides.{decide, decided, forbids, items_from, outcome_of, told_by}
+use Rattle.sa_call.specs.Decides.{decide, decided, forbids, items_from, outcome_of, told_by, setting_of}
 use Rattle.sa_call.specs.Decls.{Declared}
 use Rattle.sa_call.specs.Elements.{and_admitted, and_later, elements, gathered, with_front}
 use Rattle.sa_call.specs.Forms.{descr_of}
 use Rattle.sa_call.specs.Limits.{most_weight}
 use Rattle.sa_call.specs.Parts.{Parts, columns_of, item_weight, items_read, part_at, weight_read}
-use Rattle.sa_call.specs.Valid.{IsCall}
+use Rattle.sa_call.specs.Valid.{IsCall, are_values}
 
 -- results are as many as the elements
 front-many : (item : Item) (r : Result (List Item) (Refusal × ℕ)) (items : List Item) (n : ℕ) → ((ys : List Item) → r ≡ Ok ys → length ys ≡ n) → with_front item r ≡ Ok items → length items ≡ n + 1
@@ -60,7 +60,7 @@ results-many decls call parts v items valid out is = heavy (nat_lt most_weight (
     light : (o : Option ℕ) → HasResults (decided decls call o parts) items → count_of items ≡ v.count
     light (Some d) told = absurd (told-none (part_at parts d) items told)
     light None told =
-        let es = elements call.op (columns_of decls (λ d. items_read (part_at parts d)) call.operands) (elements_in call) in
+        let es = elements (setting_of decls call) call.op (columns_of decls (λ d. items_read (part_at parts d)) call.operands) (elements_in call) in
         let many : length es ≡ elements_in call = length-map-range_with_len _ 0 (elements_in call) in
         let fits : is_length_of (Some v) (broadcast (counts_of call)) ≡ true = ap (λ o. is_length_of o (broadcast (counts_of call))) (sym out) ∙ valid.lengths in
         let size = elements-of_output v (broadcast (counts_of call)) fits in
@@ -69,5 +69,24 @@ results-many decls call parts v items valid out is = heavy (nat_lt most_weight (
         given-many v r items v.count (λ ys e. gathered-many (forbids decls call.out) (weight_read call parts) 0 es ys e ∙ (many ∙ size)) told_out
 
     heavy : (b : Bool) → nat_lt most_weight (weight_read call parts) ≡ b → count_of items ≡ v.count
+    heavy true e = let none : Some items ≡ None = sym is ∙ rw e refl in cc
+    heavy false e = light (descr_of call.op) (sym (rw e refl) ∙ is)
+
+-- and they are values
+given-values : (v : View) (r : Result (List Item) (Refusal × ℕ)) (items : Items) → HasResults (outcome_of (Some v) r) items → are_values items ≡ true
+given-values v (Ok ys) items is = let same : items ≡ items_from ys = cc in ap are_values same
+given-values v (Err e) items is = cc
+
+pub results-values : (decls : Declared) (call : Call) (parts : Parts) (v : View) (items : Items) → call.out ≡ Some v → (decide decls call parts).results ≡ Some items → are_values items ≡ true
+results-values decls call parts v items out is = heavy (nat_lt most_weight (weight_read call parts)) refl
+  where
+    light : (o : Option ℕ) → HasResults (decided decls call o parts) items → are_values items ≡ true
+    light (Some d) told = absurd (told-none (part_at parts d) items told)
+    light None told =
+        let r = gathered (forbids decls call.out) (weight_read call parts) 0 (elements (setting_of decls call) call.op (columns_of decls (λ d. items_read (part_at parts d)) call.operands) (elements_in call)) in
+        let told_out : HasResults (outcome_of (Some v) r) items = ap (λ o. (outcome_of o r).results) (sym out) ∙ told in
+        given-values v r items told_out
+
+    heavy : (b : Bool) → nat_lt most_weight (weight_read call parts) ≡ b → are_values items ≡ true
     heavy true e = let none : Some items ≡ None = sym is ∙ rw e refl in cc
     heavy false e = light (descr_of call.op) (sym (rw e refl) ∙ is)

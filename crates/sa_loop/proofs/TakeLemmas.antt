@@ -17,20 +17,18 @@ use Rattle.sa_plain.specs.Items.{count_of}
 use Rattle.sa_plain.specs.declared.items.Items.{Items}
 use Rattle.sa_call.specs.declared.call.Call.{Call}
 use Rattle.sa_call.specs.declared.call.Op.{Op}
-use Rattle.sa_call.specs.declared.call.Op.TheVariants as op
 use Rattle.sa_call.specs.declared.call.Operand.{Operand}
 use Rattle.sa_call.specs.declared.call.Operand.TheVariants as operand
 use Rattle.sa_call.specs.declared.form.Gives.{Gives}
 use Rattle.sa_call.specs.declared.form.Gives.TheVariants as gives
-use Rattle.sa_call.specs.declared.form.Sort.{Sort}
-use Rattle.sa_call.specs.declared.form.Sort.TheVariants as sort
 use Rattle.sa_call.specs.declared.operands.Operands.{Operands}
 use Rattle.sa_call.specs.declared.operands.Operands.TheVariants as operands
 use Rattle.sa_call.specs.Decls.{Declared, IsDeclared, home_of}
 use Rattle.sa_call.specs.Forms.{entry, descr_of}
 use Rattle.sa_call.specs.Parts.{Parts, literal_weight, part_weight, picture_weight, weight_read}
 use Rattle.sa_call.specs.Told.{homes_of, is_named, is_number, items_told, operand_is_at, output_is_at, parts_told, places_in, places_told, view_counts, weighed_by, weighed_parts}
-use Rattle.sa_call.specs.Valid.{IsCall, IsLiteralOperand, are_of, is_descr_of, is_operand_of, is_view_of, output_stands}
+use Rattle.sa_call.specs.Valid.{IsCall, IsLiteralOperand, all_values, is_descr_of, is_operand_of, is_view_of}
+use Rattle.sa_call.proofs.OpLemmas.{few-operands, on-none, on-whole, whole-alone}
 use Rattle.sa_call.proofs.PartLemmas.{count-once, sum_by-map}
 use Rattle.sa_loop.specs.Held.{AreHeld, AreShort, CanTake, HasShape, IsShort, IsTaken, IsTakenWhole}
 use Rattle.sa_loop.specs.Runs.{world_of}
@@ -63,50 +61,27 @@ are-held decls held layouts call can =
     let named = or_left (list_any (operand_is_at decls d) call.operands || output_is_at decls d call.out) (is_number d (descr_of call.op)) viewed in
     (can.homes d named, can.shapes d named))
 
-few-of : (ss : List Sort) (os : List Operand) → are_of ss os ≡ true → length os ≤ length ss
-few-of [] [] are = omega arith
-few-of [] (o ∷ os) are = absurd (false≢true are)
-few-of (sort.Descr ∷ ss) os are = let rest = few-of ss os are in omega arith
-few-of (sort.View ∷ ss) [] are = omega arith
-few-of (sort.View ∷ ss) (operand.View v ∷ os) are = let rest = few-of ss os are in omega arith
-few-of (sort.View ∷ ss) (operand.Literal items ∷ os) are = absurd (false≢true are)
-few-of (sort.Literal ∷ ss) [] are = omega arith
-few-of (sort.Literal ∷ ss) (operand.View v ∷ os) are = absurd (false≢true are)
-few-of (sort.Literal ∷ ss) (operand.Literal items ∷ os) are = let rest = few-of ss os are in omega arith
-
-few-needs : (o : Op) → length (entry o).needs ≤ 8
-few-needs op.Set = omega arith
-few-needs op.Copy = omega arith
-few-needs op.Show = omega arith
-few-needs (op.Stats d) = omega arith
-few-needs (op.Image d) = omega arith
-
 short-literals : (os : List Operand) → AllByRecursion IsLiteralOperand os → AllByRecursion IsShort os
 short-literals [] literals = tt
 short-literals (operand.View v ∷ os) literals = (tt, short-literals os literals.1)
 short-literals (operand.Literal items ∷ os) literals = (literals.0.few, short-literals os literals.1)
 
-pub are-short : (decls : Declared) (call : Call) → IsCall decls call → AreShort call.operands
-are-short decls call valid =
-    let few = few-of (entry call.op).needs call.operands valid.sorts in
-    let most = few-needs call.op in
+pub are-short : (decls : Declared) (call : Call) → descr_of call.op ≡ None → IsCall decls call → AreShort call.operands
+are-short decls call none valid =
+    let few = few-operands call.op call.operands (on-none call.op none) valid.sorts in
     record { few = omega arith; short = short-literals call.operands valid.literals }
 
 -- what a call gives
 
 pub given-same : (o : Op) → descr_of o ≡ None → (entry o).gives ≡ gives.Same
-given-same op.Set none = refl
-given-same op.Copy none = refl
-given-same op.Show none = refl
-given-same (op.Stats d) none = cc
-given-same (op.Image d) none = cc
+given-same o none = (on-none o none).gives
 
 pub given-statistics : (o : Op) → is_some (descr_of o) ≡ true → ((entry o).gives ≡ gives.Picture → ⊥) → (entry o).gives ≡ gives.Statistics
-given-statistics op.Set some other = absurd (false≢true some)
-given-statistics op.Copy some other = absurd (false≢true some)
-given-statistics op.Show some other = absurd (false≢true some)
-given-statistics (op.Stats d) some other = refl
-given-statistics (op.Image d) some other = absurd (other refl)
+given-statistics o some other = go (descr_of o) refl some
+  where
+    go : (n : Option ℕ) → descr_of o ≡ n → is_some n ≡ true → (entry o).gives ≡ gives.Statistics
+    go None at some = absurd (false≢true some)
+    go (Some n) at some = elim (on-whole o n at).gives [ inl e ↦ e | inr e ↦ absurd (other e) ]
 
 -- the lists that were read of a world
 
@@ -116,6 +91,11 @@ counts-read decls w (operand.Literal items ∷ os) = counts-read decls w os
 counts-read decls w (operand.View v ∷ os) =
     ap (λ n. n ∷ map count_of (views_read decls w os)) (length-map (places_of v) _ ∙ length-map-range_with_len (place_at v) 0 v.count)
     ∙ ap (λ ns. v.count ∷ ns) (counts-read decls w os)
+
+values-read : (decls : Declared) (w : World) (os : List Operand) → all_values (views_read decls w os) ≡ true
+values-read decls w [] = refl
+values-read decls w (operand.Literal items ∷ os) = values-read decls w os
+values-read decls w (operand.View v ∷ os) = values-read decls w os
 
 items-same : (decls : Declared) (w : World) (d : ℕ) (os : List Operand) → items_told decls d os (views_read decls w os) ≡ items_taken decls (w d) d os
 items-same decls w d [] = refl
@@ -203,7 +183,7 @@ taken-light decls layouts call weights total lists none same are sums light read
     ∙ reads-same decls w call homes same
     ∙ ap (λ (b : Bool). each (λ d. part decls (w d) call b d) homes) (sym under) in
     record {
-      are_operands = (same, ap (map count_of) read ∙ counts-read decls w call.operands);
+      are_operands = (same, ap (map count_of) read ∙ counts-read decls w call.operands, ap all_values read ∙ values-read decls w call.operands);
       are_weights = told-light decls w call (parts_told decls call (operands.Items lists) none) parts (omega arith);
       parts = parts;
     }
@@ -229,25 +209,15 @@ alone d n below =
     same-numbers d (range_with_len 0 n)
     ∙ ap (λ k. replicate k d) (length-filter (eqb d) (range_with_len 0 n) ∙ count-once d 0 n (omega arith) (omega arith))
 
-whole-alone : (decls : Declared) (o : Op) (os : List Operand) (out : Option View) (number : ℕ) → are_of (entry o).needs os ≡ true → output_stands (entry o).into out ≡ true → is_descr_of decls (descr_of o) ≡ true → descr_of o ≡ Some number
-    → (filter (is_named decls (record { op = o; operands = os; out = out })) (range_with_len 0 (length decls.descrs)) ≡ number ∷ []) × (os ≡ [])
-whole-alone decls op.Set os out number sorts output descr is = cc
-whole-alone decls op.Copy os out number sorts output descr is = cc
-whole-alone decls op.Show os out number sorts output descr is = cc
-whole-alone decls (op.Stats d) (o ∷ os) out number sorts output descr is = absurd (false≢true sorts)
-whole-alone decls (op.Stats d) [] (Some v) number sorts output descr is = absurd (false≢true output)
-whole-alone decls (op.Stats d) [] None number sorts output descr is =
-    let same : d ≡ number = cc in
-    (alone d (length decls.descrs) (ltb-true d (length decls.descrs) descr) ∙ ap (λ k. k ∷ []) same, refl)
-whole-alone decls (op.Image d) (o ∷ os) out number sorts output descr is = absurd (false≢true sorts)
-whole-alone decls (op.Image d) [] (Some v) number sorts output descr is = absurd (false≢true output)
-whole-alone decls (op.Image d) [] None number sorts output descr is =
-    let same : d ≡ number = cc in
-    (alone d (length decls.descrs) (ltb-true d (length decls.descrs) descr) ∙ ap (λ k. k ∷ []) same, refl)
-
 -- the only home, and no operands
 home-alone : (decls : Declared) (call : Call) (number : ℕ) → IsCall decls call → descr_of call.op ≡ Some number → (homes_of decls call ≡ number ∷ []) × (call.operands ≡ [])
-home-alone decls call number valid is = whole-alone decls call.op call.operands call.out number valid.sorts valid.output valid.descr is
+home-alone decls call number valid at =
+    let none = whole-alone call.op call.operands call.out (on-whole call.op number at) valid.sorts valid.output in
+    let below = ltb-true number (length decls.descrs) (ap (is_descr_of decls) (sym at) ∙ valid.descr) in
+    (ap (λ (p : ℕ → Bool). filter p (range_with_len 0 (length decls.descrs))) (λ i k. named-by (none.0 i) (none.1 i) (at i) k) ∙ alone number (length decls.descrs) below, none.0)
+  where
+    named-by : (os : List Operand) (out : Option View) (o : Option ℕ) → ℕ → Bool
+    named-by os out o k = (list_any (operand_is_at decls k) os || output_is_at decls k out) || is_number k o
 
 part-counted : (g : Gives) (decls : Declared) (s : State) (call : Call) (heavy : Bool) (d : ℕ) → g ≡ gives.Statistics → part_by g decls s call heavy d ≡ Counted (stats_of s.layout)
 part-counted gives.Same decls s call heavy d is = cc

@@ -1,11 +1,12 @@
 -- What performing a call makes of a run.
-use Rattle.std.specs.Prelude.{◌≡◌, ◌<◌, ℕ, List, [], ◌∷◌, ◌++◌, Option, Some, None}
+use Rattle.std.specs.Prelude.{◌≡◌, ◌<◌, ℕ, true, List, [], ◌∷◌, ◌++◌, Option, Some, None}
 use Rattle.sa_alloc.specs.Layouts.{Layout, IsSound}
 use Rattle.sa_view.specs.declared.view.View.{View}
 use Rattle.sa_plain.specs.Items.{count_of}
 use Rattle.sa_plain.specs.declared.items.Items.{Items}
 use Rattle.sa_call.specs.declared.call.Call.{Call}
 use Rattle.sa_call.specs.Decls.{Declared, home_of}
+use Rattle.sa_call.specs.Valid.{are_values}
 use Rattle.sa_loop.specs.declared.act.Act.{Act}
 use Rattle.sa_loop.specs.Held.{IsViewIn}
 use Rattle.sa_loop.specs.Runs.{world_of}
@@ -21,11 +22,11 @@ pub record IsOneMore (decls : Declared) (layouts : ℕ → Layout) (call : Call)
   pub decls_is : act.decls.now ≡ decls
   pub outcome_is : act.outcome ≡ outcome_in decls (world_of layouts) call
 
--- results can be put: the output fits its home's arrays, and has a place for each
+-- results can be put: the output fits its home's arrays, and has a place for each, and they are values
 abbrev pub CanPut : Declared → (ℕ → Layout) → ℕ → Option View → Option Items → Type 0
 CanPut decls layouts stores None results = Unit {0}
 CanPut decls layouts stores (Some out) None = Unit {0}
-CanPut decls layouts stores (Some out) (Some results) = (home_of decls out.array < stores) × IsViewIn decls out (layouts (home_of decls out.array)) × (count_of results ≡ out.count)
+CanPut decls layouts stores (Some out) (Some results) = (home_of decls out.array < stores) × IsViewIn decls out (layouts (home_of decls out.array)) × (count_of results ≡ out.count) × (are_values results ≡ true)
 
 -- the layout into which results are put is sound
 abbrev pub IsSoundAt : Declared → (ℕ → Layout) → Option View → Option Items → Type 0

@@ -11,13 +11,12 @@ use crate::act::Act;
 use crate::last_read::{LastReads, place};
 use crate::listed::Listed;
 use crate::opening::opening_stores;
-use crate::places::home_of;
 use crate::rooms::Rooms;
 use crate::taking::take;
 use crate::writing::put_results;
 use sa_alloc::Store;
 use sa_base::Memory;
-use sa_call::{Call, Decls, Items, View, evaluate};
+use sa_call::{Call, Decls, Items, View, evaluate, home_of};
 use std::alloc::Global;
 
 impl Rooms for Vec<Store> {

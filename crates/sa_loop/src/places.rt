@@ -1,22 +1,11 @@
 ghost use Rattle.std.specs.Prelude.{◌≡◌, ◌<◌, ◌^◌, length, count_by, IfOk, true};
 ghost use Rattle.std.specs.List.{list_any};
-ghost use Rattle.sa_call.specs.Decls.{home_of};
 ghost use Rattle.sa_call.specs.Told.{is_at, index_at_home, is_named, operand_is_at, output_is_at};
 ghost use Rattle.sa_view.specs.Views.{fits_some, places_of};
 
 use sa_base::Memory;
-use sa_call::{ArrayDecl, Call, Decls, Operand, View};
+use sa_call::{ArrayDecl, Call, Decls, Operand, View, home_of};
 use std::alloc::Global;
-
-/// The home of an array; that of no array is 0.
-pub fn home_of(decls: &Decls, array: u32) -> u8
-    ensures { result ≡ home_of decls.now array }
-{
-    match decls.arrays().get(array as usize) {
-        Some(array) => array.home,
-        None => 0,
-    }
-}
 
 /// The number of an array among those of its home.
 pub fn index_at_home(decls: &Decls, array: u32) -> u32

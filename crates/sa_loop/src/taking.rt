@@ -12,11 +12,13 @@ ghost use Rattle.sa_loop.specs.Takes.{weight_taken, weights_in, views_read};
 use crate::act::WeightList;
 use crate::last_read::{LastRead, LastReads, last_list, place};
 use crate::picture::take_whole;
-use crate::places::{home_of, index_at_home, is_named, places};
+use crate::places::{index_at_home, is_named, places};
 use crate::rooms::Rooms;
 use sa_alloc::Store;
 use sa_base::Memory;
-use sa_call::{Call, Decls, Items, ItemsList, MOST_WEIGHT, Operand, Operands, ValueList, View};
+use sa_call::{
+    Call, Decls, Items, ItemsList, MOST_WEIGHT, Operand, Operands, ValueList, View, home_of,
+};
 use std::alloc::Global;
 
 /// Reads what a call takes of its descriptors. All is weighed first, by the slots alone; what weighs too

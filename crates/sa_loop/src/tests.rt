@@ -1,9 +1,9 @@
-ghost use Rattle.std.specs.Prelude.{◌≡◌, ◌≤◌, ◌==◌, ◌||◌, ◌∷◌, [], length, Some, IfOk};
+ghost use Rattle.std.specs.Prelude.{◌≡◌, ◌≤◌, ◌==◌, ◌||◌, ◌∷◌, [], length, Some, None, true, IfOk};
 ghost use Rattle.std.specs.List.{AllByRecursion};
 ghost use Rattle.sa_text.specs.Values.{IsTextValue};
 ghost use Rattle.sa_plain.specs.Items.{values_of};
 ghost use Rattle.sa_call.specs.Forms.{descr_of, entry};
-ghost use Rattle.sa_call.specs.Valid.{IsCall, is_view_of};
+ghost use Rattle.sa_call.specs.Valid.{IsCall, are_values, is_view_of};
 ghost use Rattle.sa_call.specs.declared.form.Into.TheVariants.{Never};
 ghost use Rattle.sa_call.specs.declared.form.Sort.TheVariants.{Descr as DescrSort};
 
@@ -46,7 +46,8 @@ fn view(array: u32, start: u32, count: u32, step: i32) -> View {
 
 /// These texts; none stands for a missing value.
 fn items(alloc: Global, texts: &[Option<&str>]) -> Result<Items, Fail>
-    ensures { IfOk result (λ items. AllByRecursion IsTextValue (values_of items)) }
+    ensures texts { IfOk result (λ items. AllByRecursion IsTextValue (values_of items)) }
+    ensures values { IfOk result (λ items. are_values items ≡ true) }
 {
     let mut values = ValueList::new(alloc);
     for text in texts {
@@ -67,7 +68,8 @@ fn value(alloc: Global, text: Option<&str>) -> Result<Value, Fail>
 
 /// The longest text that there may be.
 fn longest(alloc: Global) -> Result<Items, Fail>
-    ensures { IfOk result (λ items. AllByRecursion IsTextValue (values_of items)) }
+    ensures texts { IfOk result (λ items. AllByRecursion IsTextValue (values_of items)) }
+    ensures values { IfOk result (λ items. are_values items ≡ true) }
 {
     let text = str::from_utf8(&[b'x'; 65_536])?;
     items(alloc, &[Some(text)])
@@ -92,7 +94,8 @@ fn fit(count: usize, places: u32) -> bool
 
 /// The call that sets places to items.
 fn set(rt: &impl Abort, alloc: Global, decls: &Decls, out: View, items: Items) -> Result<Call, Fail>
-    requires { AllByRecursion IsTextValue (values_of items) }
+    requires texts { AllByRecursion IsTextValue (values_of items) }
+    requires values { are_values items ≡ true }
     ensures { IfOk result (IsCall decls.now) }
 {
     let count = items.len();
@@ -133,7 +136,9 @@ fn show(rt: &impl Abort, alloc: Global, decls: &Decls, from: View) -> Result<Cal
 /// The call on the descriptor of this number as a whole.
 fn whole(rt: &impl Abort, alloc: Global, decls: &Decls, op: Op, number: u8) -> Call
     requires takes { (entry op).needs ≡ DescrSort ∷ [] }
+    requires alone { (entry op).may ≡ [] }
     requires never { (entry op).into ≡ Never }
+    requires moves { (entry op).group ≡ None }
     requires number { descr_of op ≡ Some number }
     ensures { IsCall decls.now result }
 {

@@ -4,6 +4,7 @@ ghost use Rattle.sa_alloc.specs.StoreValues.{IsSoundStore};
 ghost use Rattle.sa_alloc.specs.Layouts.{put_all};
 ghost use Rattle.sa_plain.specs.Items.{count_of};
 ghost use Rattle.sa_call.specs.Decls.{home_of};
+ghost use Rattle.sa_call.specs.Valid.{are_values};
 ghost use Rattle.sa_loop.specs.Held.{IsViewIn};
 ghost use Rattle.sa_loop.specs.Writes.{layout_written, puts_told};
 
@@ -23,6 +24,7 @@ pub fn plan_results(
 ) -> Result<Plan, Memory>
     requires output { IsViewIn decls.now out.now store.old.contents.layout }
     requires many { count_of results.now ≡ out.now.count }
+    requires values { are_values results.now ≡ true }
     ensures sound { IsSoundStore store.old.contents }
     ensures contents { store.new.contents ≡ store.old.contents }
     ensures valid { IfOk result (λ plan. IsPlan store.old.contents.layout.lengths plan) }
@@ -32,7 +34,9 @@ pub fn plan_results(
     let _sound = store.lengths();
     let places = places(alloc, out)?;
     let index = index_at_home(decls, out.array);
-    let values = results.as_value_list();
+    let Items::Values(values) = results else {
+        unreachable!()
+    };
     store.plan(alloc, index, places.as_slice(), values.as_slice())
 }
 
@@ -47,6 +51,7 @@ pub fn put_results(
 ) -> Result<(), Memory>
     requires output { IsViewIn decls.now out.now store.old.contents.layout }
     requires many { count_of results.now ≡ out.now.count }
+    requires values { are_values results.now ≡ true }
     ensures sound { IsSoundStore store.old.contents }
     ensures written { OnOk result (store.new.contents.layout ≡ layout_written store.old.contents.layout (puts_told decls.now out.now results.now)) }
     ensures kept { OnErr result (store.new.contents ≡ store.old.contents) }

@@ -1,15 +1,23 @@
-ghost use Rattle.std.specs.Prelude.{◌≡◌, ◌==◌, ◌*◌, ◌≤◌, IfOk};
-ghost use Rattle.sa_plain.specs.Items.{count_of, items_weight, values_of, stretched_items};
+ghost use Rattle.std.specs.Prelude.{◌≡◌, ◌==◌, ◌*◌, ◌≤◌, IfOk, option_map};
+ghost use Rattle.sa_plain.specs.Items.{count_of, items_weight, values_in};
 
 use sa_base::{Memory, Sequence};
 use sa_text::ValueList;
 use std::alloc::Global;
+
+/// What an item weighs beside the bytes of its text.
+const ITEM_WEIGHT: u64 = 16;
+
+/// A list of numbers.
+pub type IntList = Sequence<i64>;
 
 /// Items of one kind: those of an operand, of a result, or of an array.
 #[derive(Debug, Drop)]
 pub enum Items {
     /// Values of strings arrays: texts, and missing ones.
     Values(ValueList),
+    /// Numbers.
+    Ints(IntList),
 }
 
 impl Items {
@@ -20,6 +28,7 @@ impl Items {
     {
         match self {
             Items::Values(values) => values.len(),
+            Items::Ints(numbers) => numbers.len(),
         }
     }
 
@@ -31,13 +40,14 @@ impl Items {
         self.len() == 0
     }
 
-    /// The values that the items are, in order.
+    /// The values that the items are, in order; none where they are of another kind.
     #[inline]
-    pub fn as_value_list(&self) -> &ValueList
-        ensures { result.now ≡ values_of self.now }
+    pub fn values(&self) -> Option<&ValueList>
+        ensures { option_map (λ l. l.now) result ≡ values_in self.now }
     {
         match self {
-            Items::Values(values) => values,
+            Items::Values(values) => Some(values),
+            Items::Ints(_) => None,
         }
     }
 
@@ -50,15 +60,18 @@ impl Items {
     {
         match self {
             Items::Values(values) => values.weight(),
+            Items::Ints(numbers) => ITEM_WEIGHT * numbers.len() as u64,
         }
     }
 
-    /// Lets copies share the items from now on. Nothing changes, also after a want of memory.
+    /// Lets copies share the items from now on, where they are values. Nothing changes, also after a want
+    /// of memory.
     pub fn share(&mut self, alloc: Global) -> Result<(), Memory>
         ensures { self.new ≡ self.old }
     {
         match self {
             Items::Values(values) => values.share(alloc),
+            Items::Ints(_) => Ok(()),
         }
     }
 
@@ -69,16 +82,10 @@ impl Items {
     {
         match self {
             Items::Values(values) => Ok(Items::Values(values.copy(alloc)?)),
-        }
-    }
-
-    /// The items stretched to a count: one item alone stands as often, and any other number of items is
-    /// the same. Of shared ones it takes no memory.
-    pub fn stretched(&self, alloc: Global, count: usize) -> Result<Items, Memory>
-        ensures { IfOk result (λ items. items ≡ stretched_items count self.now) }
-    {
-        match self {
-            Items::Values(values) => Ok(Items::Values(values.stretched(alloc, count)?)),
+            Items::Ints(numbers) => {
+                let numbers = IntList::from_slice(alloc, numbers.as_slice())?;
+                Ok(Items::Ints(numbers))
+            }
         }
     }
 }

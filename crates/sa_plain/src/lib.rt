@@ -4,7 +4,7 @@
 mod items;
 mod written;
 
-pub use items::{ByteList, Items, ItemsList};
+pub use items::{ByteList, IntList, Items, ItemsList};
 pub use sa_text::ValueList;
 pub use written::push_items;
 

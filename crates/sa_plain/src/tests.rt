@@ -27,8 +27,7 @@ fn items_have_their_length_weight_and_values(rt: HostRuntime) -> Result<(), Fail
     let items = two_items(rt.alloc())?;
     assert_eq!(rt; items.len(), 2);
     assert!(rt; !items.is_empty());
-    assert_eq!(rt; items.as_value_list().len(), 2);
-    assert!(rt; matches!(items.as_value_list().get(0), Some(Value::Missing)));
+    assert!(rt; items.values().is_some_and(|values| values.len() == 2));
     assert!(rt; items.len() <= 8192);
     assert_eq!(rt; items.weight(), 35);
     Ok(())
@@ -44,18 +43,29 @@ fn items_are_shared_and_copied(rt: HostRuntime) -> Result<(), Fail> {
         written(alloc, &copy)?.as_slice(),
         b"(na,\"abc\")".as_slice()
     );
-    assert_eq!(rt; copy.stretched(alloc, 3)?.len(), 2);
     Ok(())
 }
 
 #[test]
-fn one_item_is_stretched_and_written(rt: HostRuntime) -> Result<(), Fail> {
+fn one_value_is_stretched_and_written(rt: HostRuntime) -> Result<(), Fail> {
     let alloc = rt.alloc();
-    let one = Items::Values(ValueList::from_vec(vec![in alloc; Value::Missing]?));
+    let one = ValueList::from_vec(vec![in alloc; Value::Missing]?);
     for (count, bytes) in [(0, b"()".as_slice()), (1, b"(na)"), (3, b"(na,na,na)")] {
-        let items = one.stretched(alloc, count)?;
+        let items = Items::Values(one.stretched(alloc, count)?);
         assert_eq!(rt; items.len(), count);
         assert_eq!(rt; written(alloc, &items)?.as_slice(), bytes, "of {count}");
     }
+    Ok(())
+}
+
+#[test]
+fn numbers_are_weighed_and_written(rt: HostRuntime) -> Result<(), Fail> {
+    let alloc = rt.alloc();
+    let numbers = [0, -1, 10, i64::MIN, i64::MAX];
+    let items = Items::Ints(IntList::from_slice(alloc, &numbers)?);
+    assert!(rt; items.values().is_none());
+    assert!(rt; items.len() == 5 && items.weight() == 80);
+    let bytes = b"(0,-1,10,-9223372036854775808,9223372036854775807)".as_slice();
+    assert_eq!(rt; written(alloc, &items.copy(alloc)?)?.as_slice(), bytes);
     Ok(())
 }

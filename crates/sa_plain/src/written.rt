@@ -1,10 +1,10 @@
 ghost use Rattle.std.specs.Prelude.{◌≡◌, ◌++◌, ◌∷◌, [], replicate, OnOk};
 ghost use Rattle.std.specs.List.{flat_map, join_by};
-ghost use Rattle.sa_plain.specs.Written.{value_bytes, list_bytes};
+ghost use Rattle.sa_plain.specs.Written.{value_bytes, number_bytes, list_bytes};
 
 use crate::items::Items;
 use sa_base::Memory;
-use sa_lines::push_quoted;
+use sa_lines::{push_decimal, push_quoted};
 use sa_text::{Value, ValueList};
 
 /// Writes one value of a list.
@@ -74,13 +74,49 @@ fn push_list(out: &mut Vec<u8>, list: &ValueList) -> Result<(), Memory>
     }
 }
 
+/// Writes one number of a list.
+fn push_number(out: &mut Vec<u8>, number: i64) -> Result<(), Memory>
+    ensures { OnOk result (out.new.items ≡ out.old.items ++ number_bytes number) }
+{
+    if number < 0 {
+        out.push(b'-')?;
+    }
+    push_decimal(out, number.unsigned_abs())
+}
+
+/// Writes numbers with a comma in front of each.
+fn push_further_numbers(out: &mut Vec<u8>, numbers: &[i64]) -> Result<(), Memory>
+    ensures { OnOk result (out.new.items ≡ out.old.items ++ flat_map (λ n. 44 ∷ number_bytes n) numbers.now) }
+{
+    for number in numbers {
+        out.push(b',')?;
+        push_number(out, *number)?;
+    }
+    Ok(())
+}
+
+/// Writes numbers with a comma between two of them.
+fn push_numbers(out: &mut Vec<u8>, numbers: &[i64]) -> Result<(), Memory>
+    ensures { OnOk result (out.new.items ≡ out.old.items ++ join_by number_bytes (44 ∷ []) numbers.now) }
+{
+    match numbers.split_first() {
+        None => Ok(()),
+        Some((first, others)) => {
+            push_number(out, *first)?;
+            push_further_numbers(out, others)
+        }
+    }
+}
+
 /// Writes items as a list in brackets at the end.
 pub fn push_items(out: &mut Vec<u8>, items: &Items) -> Result<(), Memory>
     ensures { OnOk result (out.new.items ≡ out.old.items ++ list_bytes items.now) }
 {
-    let Items::Values(values) = items;
     out.push(b'(')?;
-    push_list(out, values)?;
+    match items {
+        Items::Values(values) => push_list(out, values)?,
+        Items::Ints(numbers) => push_numbers(out, numbers.as_slice())?,
+    }
     out.push(b')')?;
     Ok(())
 }

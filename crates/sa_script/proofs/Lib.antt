@@ -1,7 +1,9 @@
 pub mod CallLemmas
+pub mod ClashLemmas
 pub mod DeclLemmas
 pub mod DistinctLemmas
 pub mod ItemLemmas
+pub mod KindLemmas
 pub mod LineLemmas
 pub mod ListLemmas
 pub mod NameLemmas

@@ -1,13 +1,12 @@
 -- The operands of a line, sort by sort.
-use Rattle.std.proofs.Common.{◌≡◌, ℕ, ◌+◌, ◌<◌, List, [], ◌∷◌, ◌++◌, length, get_or, drop, Option, Some, None, option_map, option_and_then, refl, sym, ap, ◌∙◌, append_assoc}
+use Rattle.std.proofs.Common.{◌≡◌, ℕ, ◌+◌, ◌<◌, List, [], ◌∷◌, ◌++◌, length, get_or, drop, Option, Some, None, option_map, option_and_then, true, false, refl, sym, ap, ◌∙◌, append_assoc, append-nil}
 use Rattle.std.proofs.lemmas.List.{at_drop_more}
+use Rattle.std.proofs.lemmas.Option.{same_Some}
+use Rattle.sa_call.specs.declared.call.Op.{Op}
 use Rattle.sa_call.specs.declared.form.Sort.{Sort}
+use Rattle.sa_call.specs.Forms.{entry}
 use Rattle.sa_script.specs.declared.statement.Term.{Term}
-use Rattle.sa_script.specs.Statements.{term_of, terms_of}
-
--- these terms in front of what was read
-abbrev pub behind_terms : List Term → Option (List Term × List (List ℕ)) → Option (List Term × List (List ℕ))
-behind_terms terms read = option_map (λ r. (terms ++ r.0, r.1)) read
+use Rattle.sa_script.specs.Statements.{behind_terms, is_over, operands_of, others_of, term_of, terms_of}
 
 pub terms-untold : (ss : List Sort) (k : ℕ) (ts : List (List ℕ)) (d : Sort) → k < length ss → ts ≡ [] → terms_of (drop k ss) ts ≡ None
 terms-untold ss k ts d below none = at_drop_more (λ (l : List Sort). terms_of l ts) ss k d below ∙ rw none refl
@@ -28,3 +27,24 @@ terms-more ss k ts rest token d terms t below cut read =
     moved : (o : Option (List Term × List (List ℕ))) → behind_terms (terms ++ t ∷ []) o ≡ behind_terms terms (option_map (λ r. (t ∷ r.0, r.1)) o)
     moved None = refl
     moved (Some r) = rw append_assoc refl
+
+-- the operands that may be left out, behind those that a call needs
+pub operands-none : (o : Op) (ts : List (List ℕ)) → None ≡ behind_terms [] (terms_of (entry o).needs ts) → None ≡ operands_of o ts
+operands-none o ts e = go (terms_of (entry o).needs ts) refl e
+  where
+    go : (r : Option (List Term × List (List ℕ))) → terms_of (entry o).needs ts ≡ r → None ≡ behind_terms [] r → None ≡ operands_of o ts
+    go None is e = rw is refl
+    go (Some r) is e = cc
+
+pub operands-read : (o : Op) (ts rest : List (List ℕ)) (terms : List Term) → Some (terms, rest) ≡ behind_terms [] (terms_of (entry o).needs ts) → operands_of o ts ≡ behind_terms terms (others_of (entry o).may rest)
+operands-read o ts rest terms e = go (terms_of (entry o).needs ts) refl e
+  where
+    go : (r : Option (List Term × List (List ℕ))) → terms_of (entry o).needs ts ≡ r → Some (terms, rest) ≡ behind_terms [] r → operands_of o ts ≡ behind_terms terms (others_of (entry o).may rest)
+    go None is e = cc
+    go (Some r) is e = let same : r ≡ (terms, rest) = sym (same_Some (terms, rest) r e) in rw (is, same) refl
+
+pub others-over : (ss : List Sort) (ts : List (List ℕ)) (terms : List Term) → is_over ts ≡ true → behind_terms terms (others_of ss ts) ≡ Some (terms, ts)
+others-over ss ts terms over = rw (over, append-nil) refl
+
+pub others-given : (ss : List Sort) (ts : List (List ℕ)) (terms : List Term) → is_over ts ≡ false → behind_terms terms (others_of ss ts) ≡ behind_terms terms (terms_of ss ts)
+others-given ss ts terms more = rw more refl

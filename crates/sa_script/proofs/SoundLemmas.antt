@@ -11,39 +11,45 @@ use Rattle.sa_call.specs.declared.decls.ArrayDecl.{ArrayDecl}
 use Rattle.sa_call.specs.declared.call.Call.{Call}
 use Rattle.sa_call.specs.Calls.{lengths_fit}
 use Rattle.sa_call.specs.Decls.{Declared, entries_of, entries_at}
-use Rattle.sa_call.specs.Valid.{IsCall}
+use Rattle.sa_call.specs.Valid.{IsCall, kinds_fit, rules_fit}
 use Rattle.sa_script.specs.declared.cause.Cause.TheVariants as cause
 use Rattle.sa_script.specs.declared.context.Context.{Context}
 use Rattle.sa_script.specs.declared.statement.Statement.{Statement}
 use Rattle.sa_script.specs.declared.statement.Statement.TheVariants as statement
-use Rattle.sa_script.specs.Contexts.{nothing, with_call, with_descr, with_array, with_task, with_last, descr_number, home_number, is_known, length_allowed}
-use Rattle.sa_script.specs.Faults.{fault_of, misplaced, out_of_order, misnamed, over_limit, bad_view, bad_lengths, passes_entries, is_long}
+use Rattle.sa_script.specs.Contexts.{declared_in, nothing, with_call, with_descr, with_array, with_task, with_last, descr_number, home_number, is_known, length_allowed}
+use Rattle.sa_script.specs.Faults.{fault_of, misplaced, out_of_order, misnamed, over_limit, bad_view, bad_kind, bad_lengths, bad_rules, bad_fill, passes_entries, is_long}
 use Rattle.sa_script.specs.Names.{name_of}
 use Rattle.sa_script.specs.Scripts.{statement_adds, context_after}
 use Rattle.sa_script.specs.Sound.{AreCalls, IsDeclaredName, IsRule, HasTextRule}
 use Rattle.sa_script.specs.SoundContexts.{IsSoundContext}
 use Rattle.sa_script.specs.Spelled.{IsSpelled}
-use Rattle.sa_script.specs.Terms.{line_passes, call_in}
+use Rattle.sa_script.specs.Terms.{line_miskinded, line_passes, call_in}
 use Rattle.sa_script.proofs.DistinctLemmas.{distinct_descr, distinct_array}
 use Rattle.sa_script.proofs.ListLemmas.{all_weaker, all_push}
 use Rattle.sa_script.proofs.ValidLemmas.{found_below, line-valid}
 
 -- a chain of tests that gives nothing fails each of them
-record NoneOf (p q r s t u : Bool) : Type 0 where
+record NoneOf (p q r s t u v w x : Bool) : Type 0 where
   second : q ≡ false
   third : r ≡ false
   fourth : s ≡ false
   fifth : t ≡ false
   sixth : u ≡ false
+  seventh : v ≡ false
+  eighth : w ≡ false
+  ninth : x ≡ false
 
-none_of : {A : Type 0} (p q r s t u : Bool) (a b c d e f : A) → cond p (Some a) (cond q (Some b) (cond r (Some c) (cond s (Some d) (cond t (Some e) (cond u (Some f) None))))) ≡ None → NoneOf p q r s t u
-none_of true q r s t u a b c d e f none = cc
-none_of false true r s t u a b c d e f none = cc
-none_of false false true s t u a b c d e f none = cc
-none_of false false false true t u a b c d e f none = cc
-none_of false false false false true u a b c d e f none = cc
-none_of false false false false false true a b c d e f none = cc
-none_of false false false false false false a b c d e f none = record { second = refl; third = refl; fourth = refl; fifth = refl; sixth = refl }
+none_of : {A : Type 0} (p q r s t u v w x : Bool) (a b c d e f g h i : A) → cond p (Some a) (cond q (Some b) (cond r (Some c) (cond s (Some d) (cond t (Some e) (cond u (Some f) (cond v (Some g) (cond w (Some h) (cond x (Some i) None)))))))) ≡ None → NoneOf p q r s t u v w x
+none_of true q r s t u v w x a b c d e f g h i none = cc
+none_of false true r s t u v w x a b c d e f g h i none = cc
+none_of false false true s t u v w x a b c d e f g h i none = cc
+none_of false false false true t u v w x a b c d e f g h i none = cc
+none_of false false false false true u v w x a b c d e f g h i none = cc
+none_of false false false false false true v w x a b c d e f g h i none = cc
+none_of false false false false false false true w x a b c d e f g h i none = cc
+none_of false false false false false false false true x a b c d e f g h i none = cc
+none_of false false false false false false false false true a b c d e f g h i none = cc
+none_of false false false false false false false false false a b c d e f g h i none = record { second = refl; third = refl; fourth = refl; fifth = refl; sixth = refl; seventh = refl; eighth = refl; ninth = refl }
 
 -- before the first task there are no calls
 no_calls : (d : Declared) (tasks : List (List Call)) → nat_lt 0 (length tasks) ≡ false → AreCalls d tasks
@@ -199,8 +205,10 @@ call_after c call s tasked few valid =
     with_tasks c (with_call c.tasks call) (c.calls + 1) s (omega arith) (omega arith) (omega arith) (calls-with_call (record { descrs = c.descrs; arrays = c.arrays }) c.tasks call s.sound.valid valid)
 
 -- what it says of a statement that it has no fault
-faultless : (c : Context) (s : Statement) → fault_of c s ≡ None → NoneOf (misplaced c s) (out_of_order c s) (misnamed c s) (over_limit c s) (bad_view c s) (bad_lengths c s)
-faultless c s e = none_of (misplaced c s) (out_of_order c s) (misnamed c s) (over_limit c s) (bad_view c s) (bad_lengths c s) cause.Syntax cause.Order cause.Name cause.Limit cause.View cause.Lengths e
+faultless : (c : Context) (s : Statement) → fault_of c s ≡ None → NoneOf (misplaced c s) (out_of_order c s) (misnamed c s) (over_limit c s) (bad_view c s) (bad_kind c s) (bad_lengths c s) (bad_rules c s) (bad_fill c s)
+faultless c s e =
+    none_of (misplaced c s) (out_of_order c s) (misnamed c s) (over_limit c s) (bad_view c s) (bad_kind c s) (bad_lengths c s) (bad_rules c s) (bad_fill c s)
+    cause.Syntax cause.Order cause.Name cause.Limit cause.View cause.Kind cause.Lengths cause.Clash cause.Fill e
 
 -- before the first line
 pub sound_nothing : IsSoundContext nothing
@@ -240,7 +248,10 @@ adds_sound c (statement.Call l) s spelled e =
     let none = faultless c (statement.Call l) e in
     let order = or_parts c.ended (not (nat_lt 0 (length c.tasks))) none.second in
     let limit = or_parts (line_passes l) (nat_le 1024 c.calls) none.fourth in
-    call_after c (call_in c l) s order.1 limit.1 (line-valid c l s spelled none.third limit.0 none.fifth (not-false (lengths_fit (call_in c l)) none.sixth))
+    let kinds = or_parts (line_miskinded l) (not (kinds_fit (call_in c l).op (call_in c l).operands)) none.sixth in
+    call_after c (call_in c l) s order.1 limit.1
+    (line-valid c l s spelled none.third limit.0 none.fifth (not-false (kinds_fit (call_in c l).op (call_in c l).operands) kinds.1)
+    (not-false (lengths_fit (call_in c l)) none.seventh) (not-false (rules_fit (declared_in c) (call_in c l)) none.eighth))
 adds_sound c statement.End s spelled e = record { version = s.version; sound = s.sound; counted = s.counted }
 
 pub sound_after : (c : Context) (s : Statement) → IsSoundContext c → IsSpelled s → fault_of c s ≡ None → IsSoundContext (context_after c s)

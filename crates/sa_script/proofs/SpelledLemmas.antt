@@ -1,5 +1,5 @@
 -- What a line spells: its names are names, its texts are texts, and its list is a literal where it passes no limit.
-use Rattle.std.proofs.Common.{◌≡◌, ℕ, zero, suc, Bool, true, false, cond, ◌&&◌, not, eqb, nat_lt, List, [], ◌∷◌, ◌++◌, length, Option, Some, None, option_map, is_some, is_none, Result, Ok, Err, codes, refl, ap, subst, ◌∙◌, arith, length-append}
+use Rattle.std.proofs.Common.{◌≡◌, ◌≤◌, ◌⊎◌, inl, inr, ℕ, zero, suc, ℤ, Bool, true, false, cond, ◌&&◌, not, eqb, nat_lt, List, [], ◌∷◌, ◌++◌, length, Option, Some, None, option_map, is_some, is_none, Result, Ok, Err, codes, refl, sym, ap, subst, ◌∙◌, arith, length-append, append-nil}
 use Rattle.std.specs.List.{AllByRecursion}
 use Rattle.std.specs.Option.{IfSome}
 use Rattle.std.proofs.lemmas.Bool.{ltb-true}
@@ -13,12 +13,14 @@ use Rattle.sa_text.specs.declared.text_error.TextError.{TextError}
 use Rattle.sa_text.specs.declared.text_error.TextError.TheVariants as errors
 use Rattle.sa_text.specs.declared.value.Value.{Value}
 use Rattle.sa_text.specs.declared.value.Value.TheVariants.{Missing}
+use Rattle.sa_plain.specs.declared.items.Items.{Items}
+use Rattle.sa_plain.specs.declared.items.Items.TheVariants.{Values, Ints}
 use Rattle.sa_text.proofs.TextLemmas.{text_of-text}
 use Rattle.sa_descr.specs.declared.descr.NaRule.{NaRule}
 use Rattle.sa_descr.specs.declared.descr.NaRule.TheVariants.{Absent, Nan, Other, Txt}
 use Rattle.sa_script.specs.declared.statement.Statement.{Statement}
 use Rattle.sa_script.specs.declared.statement.Statement.TheVariants as statement
-use Rattle.sa_script.specs.Items.{fitting, text_at, nothing_left, text_token, of_text, missing_at, item_at, one_more, uncons, further_at, items_at, list_of}
+use Rattle.sa_script.specs.Items.{fitting, text_at, nothing_left, text_token, of_text, missing_at, item_at, one_more, uncons, further_at, items_at, number_at, list_as, has_values, list_of}
 use Rattle.sa_script.specs.Limits.{most_items}
 use Rattle.sa_script.specs.Names.{name_of, is_name, is_reserved}
 use Rattle.sa_script.specs.Sound.{IsRule}
@@ -33,7 +35,7 @@ use Rattle.sa_call.specs.Forms.{entry, op_of}
 use Rattle.sa_script.specs.declared.statement.ViewTerm.{ViewTerm}
 use Rattle.sa_script.specs.declared.statement.Term.{Term}
 use Rattle.sa_script.specs.declared.statement.Term.TheVariants as term
-use Rattle.sa_script.specs.Statements.{text_rule_of, rule_of, coerce_of, descr_of, length_of, array_of, version_of, call_of, front_of, term_of, terms_of, into_of, nothing_behind, behind_of, alone, statement_of}
+use Rattle.sa_script.specs.Statements.{text_rule_of, rule_of, coerce_of, descr_of, length_of, array_of, version_of, call_of, front_of, term_of, terms_of, is_over, behind_terms, operands_of, list_or_view, into_of, nothing_behind, behind_of, alone, statement_of}
 use Rattle.sa_script.proofs.ListLemmas.{all_push}
 
 -- what was read of a reading after another, and of a choice of two
@@ -102,54 +104,97 @@ item_value (b ∷ bs) i e =
     subst (λ (x : Option Value × List ℕ). IfSome x.0 IsTextValue) (same_Some _ i t.then) (of_text_value t.value.0 (text_at_text (b ∷ bs) t.value t.first)))
     e
 
--- lists
-abbrev AreTexts : Option (List Value) → Type 0
-AreTexts items = IfSome items (AllByRecursion IsTextValue)
+-- lists: there is an item at least, there are no more than a list may have, and something holds of each
+record IsRun {A : Type 0} (P : A → Type 0) (xs : List A) : Type 0 where
+  some : 1 ≤ length xs
+  few : length xs ≤ most_items
+  all : AllByRecursion P xs
 
-list_texts : (items : Option (List Value)) → IsList items → AreTexts items
-list_texts None is = tt
-list_texts (Some values) is = is.texts
+abbrev AreRead : {A : Type 0} → (A → Type 0) → Option (List A) → Type 0
+AreRead P items = IfSome items (AllByRecursion P)
 
-pushed : (b : Bool) (values : List Value) (value : Value) → nat_lt (length values) most_items ≡ b → AllByRecursion IsTextValue values → IsTextValue value → IsList (cond b (Some (values ++ value ∷ [])) None)
-pushed false values value room before text = tt
-pushed true values value room before text =
-    let longer = length-append values (value ∷ []) in
-    let below = ltb-true (length values) 8192 room in
-    record { some = omega arith; few = omega arith; texts = all_push IsTextValue values value before text }
+abbrev IsReadList : {A : Type 0} → (A → Type 0) → Option (List A) → Type 0
+IsReadList P items = IfSome items (IsRun P)
 
-one_more_list : (items : Option (List Value)) (item : Option Value) → AreTexts items → IfSome item IsTextValue → IsList (one_more items item)
-one_more_list None item before text = tt
-one_more_list (Some values) None before text = tt
-one_more_list (Some values) (Some value) before text = pushed (nat_lt (length values) most_items) values value refl before text
+all_read : {A : Type 0} (P : A → Type 0) (items : Option (List A)) → IsReadList P items → AreRead P items
+all_read P None is = tt
+all_read P (Some xs) is = is.all
 
-further_list : (so_far : Option (List Value)) (bs : List ℕ) (f : Option (List Value) × ℕ × List ℕ) → AreTexts so_far → further_at so_far bs ≡ Some f → IsList f.0
-further_list so_far bs f before e =
-    let i = bound (item_at bs) _ f e in
+pushed : {A : Type 0} (P : A → Type 0) (b : Bool) (xs : List A) (x : A) → nat_lt (length xs) most_items ≡ b → AllByRecursion P xs → P x → IsReadList P (cond b (Some (xs ++ x ∷ [])) None)
+pushed P false xs x room before is = tt
+pushed P true xs x room before is =
+    let longer = length-append xs (x ∷ []) in
+    let below = ltb-true (length xs) 8192 room in
+    record { some = omega arith; few = omega arith; all = all_push P xs x before is }
+
+one_more_list : {A : Type 0} (P : A → Type 0) (items : Option (List A)) (item : Option A) → AreRead P items → IfSome item P → IsReadList P (one_more items item)
+one_more_list P None item before is = tt
+one_more_list P (Some xs) None before is = tt
+one_more_list P (Some xs) (Some x) before is = pushed P (nat_lt (length xs) most_items) xs x refl before is
+
+-- each item that is read passes
+abbrev Reads : {A : Type 0} → (A → Type 0) → (List ℕ → Option (Option A × List ℕ)) → Type 0
+Reads {A} P item = (bs : List ℕ) (i : Option A × List ℕ) → item bs ≡ Some i → IfSome i.0 P
+
+further_list : {A : Type 0} (P : A → Type 0) (item : List ℕ → Option (Option A × List ℕ)) (so_far : Option (List A)) (bs : List ℕ) (f : Option (List A) × ℕ × List ℕ)
+    → Reads P item → AreRead P so_far → further_at item so_far bs ≡ Some f → IsReadList P f.0
+further_list {A} P item so_far bs f reads before e =
+    let i = bound (item bs) _ f e in
     let r = bound (uncons i.value.1) _ f i.then in
-    subst (λ (x : Option (List Value) × ℕ × List ℕ). IsList x.0) (same_Some _ f r.then) (one_more_list so_far i.value.0 before (item_value bs i.value i.first))
+    subst (λ (x : Option (List A) × ℕ × List ℕ). IsReadList P x.0) (same_Some _ f r.then) (one_more_list P so_far i.value.0 before (reads bs i.value i.first))
 
-items_list : (left : ℕ) (so_far : Option (List Value)) (bs : List ℕ) (r : Option (List Value) × List ℕ) → AreTexts so_far → items_at left so_far bs ≡ Some r → IsList r.0
-items_list zero so_far bs r before e = cc
-items_list (suc left) so_far bs r before e =
-    let f = bound (further_at so_far bs) _ r e in
-    let is = further_list so_far bs f.value before f.first in
-    chosen (eqb f.value.1 44) (items_at left f.value.0 f.value.2) (cond (eqb f.value.1 41) (Some (f.value.0, f.value.2)) None) r (λ (x : Option (List Value) × List ℕ). IsList x.0)
-    (λ more. items_list left f.value.0 f.value.2 r (list_texts f.value.0 is) more)
-    (λ last. chosen (eqb f.value.1 41) (Some (f.value.0, f.value.2)) None r (λ (x : Option (List Value) × List ℕ). IsList x.0)
-    (λ end. subst (λ (x : Option (List Value) × List ℕ). IsList x.0) (same_Some _ r end) is) (λ none. cc) last)
+items_list : {A : Type 0} (P : A → Type 0) (item : List ℕ → Option (Option A × List ℕ)) (left : ℕ) (so_far : Option (List A)) (bs : List ℕ) (r : Option (List A) × List ℕ)
+    → Reads P item → AreRead P so_far → items_at item left so_far bs ≡ Some r → IsReadList P r.0
+items_list P item zero so_far bs r reads before e = cc
+items_list {A} P item (suc left) so_far bs r reads before e =
+    let f = bound (further_at item so_far bs) _ r e in
+    let is = further_list P item so_far bs f.value reads before f.first in
+    chosen (eqb f.value.1 44) (items_at item left f.value.0 f.value.2) (cond (eqb f.value.1 41) (Some (f.value.0, f.value.2)) None) r (λ (x : Option (List A) × List ℕ). IsReadList P x.0)
+    (λ more. items_list P item left f.value.0 f.value.2 r reads (all_read P f.value.0 is) more)
+    (λ last. chosen (eqb f.value.1 41) (Some (f.value.0, f.value.2)) None r (λ (x : Option (List A) × List ℕ). IsReadList P x.0)
+    (λ end. subst (λ (x : Option (List A) × List ℕ). IsReadList P x.0) (same_Some _ r end) is) (λ none. cc) last)
     f.then
 
-list_spelled : (token : List ℕ) (items : Option (List Value)) → list_of token ≡ Some items → IsList items
-list_spelled [] items e = cc
-list_spelled (b ∷ bs) items e =
-    chosen (eqb b 40) (items_at (length bs) (Some []) bs >>= nothing_left) (item_at (b ∷ bs) >>= λ i. nothing_left (one_more (Some []) i.0, i.1)) items IsList
+read_list : {A : Type 0} (P : A → Type 0) (item : List ℕ → Option (Option A × List ℕ)) (token : List ℕ) (items : Option (List A)) → Reads P item → list_as item token ≡ Some items → IsReadList P items
+read_list P item [] items reads e = cc
+read_list {A} P item (b ∷ bs) items reads e =
+    chosen (eqb b 40) (items_at item (length bs) (Some []) bs >>= nothing_left) (item (b ∷ bs) >>= λ i. nothing_left (one_more (Some []) i.0, i.1)) items (IsReadList P)
     (λ f.
-    let r = bound (items_at (length bs) (Some []) bs) nothing_left items f in
-    subst IsList (nothing_left_is r.value.0 r.value.1 items r.then) (items_list (length bs) (Some []) bs r.value tt r.first))
+    let r = bound (items_at item (length bs) (Some []) bs) nothing_left items f in
+    subst (IsReadList P) (nothing_left_is r.value.0 r.value.1 items r.then) (items_list P item (length bs) (Some []) bs r.value reads tt r.first))
     (λ f.
-    let i = bound (item_at (b ∷ bs)) _ items f in
-    subst IsList (nothing_left_is (one_more (Some []) i.value.0) i.value.1 items i.then) (one_more_list (Some []) i.value.0 tt (item_value (b ∷ bs) i.value i.first)))
+    let i = bound (item (b ∷ bs)) _ items f in
+    subst (IsReadList P) (nothing_left_is (one_more (Some []) i.value.0) i.value.1 items i.then) (one_more_list P (Some []) i.value.0 tt (reads (b ∷ bs) i.value i.first)))
     e
+
+-- a number is any
+abbrev IsAny : ℤ → Type 0
+IsAny n = Unit {0}
+
+any_number : (bs : List ℕ) (i : Option ℤ × List ℕ) → number_at bs ≡ Some i → IfSome i.0 IsAny
+any_number bs (None, rest) e = tt
+any_number bs (Some n, rest) e = tt
+
+value_literal : (values : Option (List Value)) → IsReadList IsTextValue values → IsList (option_map Values values)
+value_literal None is = tt
+value_literal (Some values) is = record { some = is.some; few = is.few; texts = is.all }
+
+number_literal : (numbers : Option (List ℤ)) → IsReadList IsAny numbers → IsList (option_map Ints numbers)
+number_literal None is = tt
+number_literal (Some numbers) is = record { some = is.some; few = is.few; texts = tt }
+
+value_list_spelled : (token : List ℕ) (items : Option Items) (o : Option (Option (List Value))) → list_as item_at token ≡ o → option_map (λ values. option_map Values values) o ≡ Some items → IsList items
+value_list_spelled token items None is e = cc
+value_list_spelled token items (Some values) is e = subst IsList (same_Some _ items e) (value_literal values (read_list IsTextValue item_at token values item_value is))
+
+number_list_spelled : (token : List ℕ) (items : Option Items) (o : Option (Option (List ℤ))) → list_as number_at token ≡ o → option_map (λ numbers. option_map Ints numbers) o ≡ Some items → IsList items
+number_list_spelled token items None is e = cc
+number_list_spelled token items (Some numbers) is e = subst IsList (same_Some _ items e) (number_literal numbers (read_list IsAny number_at token numbers any_number is))
+
+list_spelled : (token : List ℕ) (items : Option Items) → list_of token ≡ Some items → IsList items
+list_spelled token items e =
+    chosen (has_values token) (option_map (λ values. option_map Values values) (list_as item_at token)) (option_map (λ numbers. option_map Ints numbers) (list_as number_at token)) items IsList
+    (λ f. value_list_spelled token items (list_as item_at token) refl f) (λ f. number_list_spelled token items (list_as number_at token) refl f) e
 
 -- rules
 abbrev IsRead : Option NaRule × List (List ℕ) → Type 0
@@ -192,6 +237,15 @@ array_spelled (n ∷ d ∷ ts) s e =
     subst IsSpelled (same_Some _ s len.then) (name_spelled n name.value name.first)
 
 -- the line of a call
+list_or_view_term : (sort : Sort) (token : List ℕ) (t : Term) → ((v : ViewTerm) → IsTerm sort (term.View v)) → ((items : Option Items) → IsList items → IsTerm sort (term.List items))
+    → (o : Option (Option Items)) → list_of token ≡ o → list_or_view o token ≡ Some t → IsTerm sort t
+list_or_view_term sort token t views lists (Some items) is e = subst (IsTerm sort) (same_Some _ t e) (lists items (list_spelled token items is))
+list_or_view_term sort token t views lists None is e = go (view_of token) e
+  where
+    go : (o : Option ViewTerm) → option_map (λ v. term.View v) o ≡ Some t → IsTerm sort t
+    go None e = cc
+    go (Some v) e = subst (IsTerm sort) (same_Some _ t e) (views v)
+
 is_term : (sort : Sort) (token : List ℕ) (t : Term) → term_of sort token ≡ Some t → IsTerm sort t
 is_term sort.View token t e = go (view_of token) e
   where
@@ -200,9 +254,16 @@ is_term sort.View token t e = go (view_of token) e
     go (Some v) e = subst (IsTerm sort.View) (same_Some _ t e) tt
 is_term sort.Literal token t e = go (list_of token) refl e
   where
-    go : (o : Option (Option (List Value))) → list_of token ≡ o → option_map (λ items. term.List items) o ≡ Some t → IsTerm sort.Literal t
+    go : (o : Option (Option Items)) → list_of token ≡ o → option_map (λ items. term.List items) o ≡ Some t → IsTerm sort.Literal t
     go None is e = cc
     go (Some items) is e = subst (IsTerm sort.Literal) (same_Some _ t e) (list_spelled token items is)
+is_term sort.Texts token t e = list_or_view_term sort.Texts token t (λ v. tt) (λ items is. is) (list_of token) refl e
+is_term sort.Numbers token t e = list_or_view_term sort.Numbers token t (λ v. tt) (λ items is. is) (list_of token) refl e
+is_term sort.Fill token t e = go (list_of token) e
+  where
+    go : (o : Option (Option Items)) → option_map (λ items. term.Fill items) o ≡ Some t → IsTerm sort.Fill t
+    go None e = cc
+    go (Some items) e = subst (IsTerm sort.Fill) (same_Some _ t e) tt
 is_term sort.Descr token t e = go (name_of token) e
   where
     go : (o : Option (List ℕ)) → option_map (λ name. term.Descr name) o ≡ Some t → IsTerm sort.Descr t
@@ -216,6 +277,30 @@ are_terms (s ∷ ss) (t ∷ ts) r e =
     let one = bound (term_of s t) _ r e in
     let more = bound (terms_of ss ts) _ r one.then in
     subst (λ (x : List Term × List (List ℕ)). AreTerms (s ∷ ss) x.0) (same_Some _ r more.then) (is_term s t one.value one.first, are_terms ss ts more.value more.first)
+
+-- with or without the operands that may be left out
+terms_append : (ss rs : List Sort) (ts us : List Term) → AreTerms ss ts → AreTerms rs us → AreTerms (ss ++ rs) (ts ++ us)
+terms_append [] rs [] us are others = others
+terms_append [] rs (t ∷ ts) us are others = elim are [ ]
+terms_append (s ∷ ss) rs [] us are others = elim are [ ]
+terms_append (s ∷ ss) rs (t ∷ ts) us are others = (are.0, terms_append ss rs ts us are.1 others)
+
+abbrev Operands : Op → List Term → Type 0
+Operands o ts = AreTerms (entry o).needs ts ⊎ AreTerms ((entry o).needs ++ (entry o).may) ts
+
+others_are : (o : Op) (terms : List Term) (b : Bool) (ts : List (List ℕ)) (r : List Term × List (List ℕ)) → AreTerms (entry o).needs terms
+    → behind_terms terms (cond b (Some ([], ts)) (terms_of (entry o).may ts)) ≡ Some r → Operands o r.0
+others_are o terms true ts r are e = inl (subst (λ (x : List Term × List (List ℕ)). AreTerms (entry o).needs x.0) (same_Some _ r e) (subst (AreTerms (entry o).needs) (sym (append-nil terms)) are))
+others_are o terms false ts r are e = go (terms_of (entry o).may ts) refl e
+  where
+    go : (read : Option (List Term × List (List ℕ))) → terms_of (entry o).may ts ≡ read → behind_terms terms read ≡ Some r → Operands o r.0
+    go None is e = cc
+    go (Some q) is e = inr (subst (λ (x : List Term × List (List ℕ)). AreTerms ((entry o).needs ++ (entry o).may) x.0) (same_Some _ r e) (terms_append (entry o).needs (entry o).may terms q.0 are (are_terms (entry o).may ts q is)))
+
+operands_are : (o : Op) (ts : List (List ℕ)) (r : List Term × List (List ℕ)) → operands_of o ts ≡ Some r → Operands o r.0
+operands_are o ts r e =
+    let first = bound (terms_of (entry o).needs ts) _ r e in
+    others_are o first.value.0 (is_over first.value.1) first.value.1 r (are_terms (entry o).needs ts first.value first.first) first.then
 
 nothing_behind-is : (front out : Option ViewTerm) (ts : List (List ℕ)) → nothing_behind front ts ≡ Some out → front ≡ out
 nothing_behind-is front out [] e = same_Some front out e
@@ -235,6 +320,7 @@ output_is : (place : Into) (ts rest : List (List ℕ)) (f : Option ViewTerm × L
 output_is into.Never ts rest f out first behind =
     let none = ap (λ (x : Option ViewTerm × List (List ℕ)). x.0) (same_Some _ f first) in
     subst (λ o. is_none o ≡ true) (none ∙ nothing_behind-is f.0 out rest behind) refl
+output_is into.May ts rest f out first behind = refl
 output_is into.Must ts rest f out first behind = into_given rest out behind
 output_is into.First [] rest f out first behind = cc
 output_is into.First (t ∷ ts) rest f out first behind =
@@ -245,10 +331,10 @@ output_is into.First (t ∷ ts) rest f out first behind =
 call_spelled : (op : Op) (ts : List (List ℕ)) (s : Statement) → call_of op ts ≡ Some s → IsSpelled s
 call_spelled op ts s e =
     let f = bound (front_of (entry op).into ts) _ s e in
-    let r = bound (terms_of (entry op).needs f.value.1) _ s f.then in
+    let r = bound (operands_of op f.value.1) _ s f.then in
     let out = bound (behind_of (entry op).into f.value.0 r.value.1) _ s r.then in
     subst IsSpelled (same_Some _ s out.then) (record {
-      terms = are_terms (entry op).needs f.value.1 r.value r.first;
+      terms = operands_are op f.value.1 r.value r.first;
       output = output_is (entry op).into ts r.value.1 f.value out.value f.first out.first;
     })
 

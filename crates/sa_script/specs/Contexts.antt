@@ -5,7 +5,7 @@ use Rattle.sa_descr.specs.declared.descr.NaRule.{NaRule}
 use Rattle.sa_view.specs.Views.{natural}
 use Rattle.sa_call.specs.declared.decls.Kind.TheVariants as kind
 use Rattle.sa_call.specs.declared.call.Call.{Call}
-use Rattle.sa_call.specs.Decls.{length_at}
+use Rattle.sa_call.specs.Decls.{Declared, length_at}
 use Rattle.sa_script.specs.declared.context.Context.{Context}
 use Rattle.sa_script.specs.Names.{Known}
 
@@ -34,6 +34,10 @@ used_array c name = unwrap_or (array_number c name) 0
 
 abbrev pub used_length : Context → List ℕ → ℕ
 used_length c name = length_at c.arrays (used_array c name)
+
+-- what is declared
+abbrev pub declared_in : Context → Declared
+declared_in c = record { descrs = c.descrs; arrays = c.arrays }
 
 -- nothing is declared before the first line
 abbrev pub nothing : Context

@@ -7,8 +7,9 @@ use Rattle.sa_script.specs.declared.statement.Statement.{Statement}
 use Rattle.sa_script.specs.declared.statement.Statement.TheVariants as statement
 use Rattle.sa_call.specs.Calls.{lengths_fit}
 use Rattle.sa_call.specs.Decls.{entries_of}
-use Rattle.sa_script.specs.Contexts.{is_known, descr_number, home_number}
-use Rattle.sa_script.specs.Terms.{line_slices, line_misnamed, line_passes, line_unfit, call_in}
+use Rattle.sa_call.specs.Valid.{kinds_fit, rules_fit}
+use Rattle.sa_script.specs.Contexts.{declared_in, is_known, descr_number, home_number}
+use Rattle.sa_script.specs.Terms.{line_slices, line_misnamed, line_passes, line_unfit, line_miskinded, line_misfilled, call_in}
 use Rattle.sa_script.specs.Limits.{most_descrs, most_arrays, most_entries, most_tasks, most_calls, most_name_bytes}
 
 -- the number of a cause in the output
@@ -19,7 +20,10 @@ code_of cause.Order = 3
 code_of cause.Name = 4
 code_of cause.Limit = 5
 code_of cause.View = 6
+code_of cause.Kind = 7
 code_of cause.Lengths = 8
+code_of cause.Clash = 9
+code_of cause.Fill = 10
 code_of cause.Cut = 11
 
 -- a line of the second version in a script of the first, or the version behind another statement
@@ -79,6 +83,15 @@ bad_view c statement.Task = false
 bad_view c (statement.Call l) = line_unfit c l
 bad_view c statement.End = false
 
+-- an operand or a fill of the call is of another kind than the table asks for, or has a missing value where none may stand
+abbrev pub bad_kind : Context → Statement → Bool
+bad_kind c statement.Version = false
+bad_kind c (statement.Descr name rule coerce) = false
+bad_kind c (statement.Array name home len) = false
+bad_kind c statement.Task = false
+bad_kind c (statement.Call l) = line_miskinded l || not (kinds_fit (call_in c l).op (call_in c l).operands)
+bad_kind c statement.End = false
+
 -- the counts of operands and output have no broadcast, or the output's count is not the broadcast
 abbrev pub bad_lengths : Context → Statement → Bool
 bad_lengths c statement.Version = false
@@ -88,6 +101,24 @@ bad_lengths c statement.Task = false
 bad_lengths c (statement.Call l) = not (lengths_fit (call_in c l))
 bad_lengths c statement.End = false
 
+-- two descriptors of views of the call, its output included, have rules that differ
+abbrev pub bad_rules : Context → Statement → Bool
+bad_rules c statement.Version = false
+bad_rules c (statement.Descr name rule coerce) = false
+bad_rules c (statement.Array name home len) = false
+bad_rules c statement.Task = false
+bad_rules c (statement.Call l) = not (rules_fit (declared_in c) (call_in c l))
+bad_rules c statement.End = false
+
+-- the fill of the call is not one text of one code point
+abbrev pub bad_fill : Context → Statement → Bool
+bad_fill c statement.Version = false
+bad_fill c (statement.Descr name rule coerce) = false
+bad_fill c (statement.Array name home len) = false
+bad_fill c statement.Task = false
+bad_fill c (statement.Call l) = line_misfilled l
+bad_fill c statement.End = false
+
 -- the first fault of a statement, in the order of their numbers
 abbrev pub fault_of : Context → Statement → Option Cause
 fault_of c s =
@@ -96,5 +127,8 @@ fault_of c s =
     else (if misnamed c s then Some cause.Name
     else (if over_limit c s then Some cause.Limit
     else (if bad_view c s then Some cause.View
+    else (if bad_kind c s then Some cause.Kind
     else (if bad_lengths c s then Some cause.Lengths
-    else None)))))
+    else (if bad_rules c s then Some cause.Clash
+    else (if bad_fill c s then Some cause.Fill
+    else None))))))))

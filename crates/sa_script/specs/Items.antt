@@ -1,5 +1,6 @@
 -- Lists of items as they are spelled in a script.
-use Rattle.std.specs.Prelude.{ℕ, zero, suc, ◌==◌, nat_lt, List, [], ◌∷◌, ◌++◌, length, Option, Some, None, Result, Ok, Err, if◌then◌else◌}
+use Rattle.std.specs.Prelude.{ℕ, zero, suc, ◌==◌, nat_lt, ℤ, Bool, false, ◌||◌, List, [], ◌∷◌, ◌++◌, length, take, drop, position, Option, Some, None, option_map, unwrap_or, Result, Ok, Err, if◌then◌else◌}
+use Rattle.sa_lines.specs.Numbers.{number_of}
 use Rattle.sa_lines.specs.Options.{◌>>=◌}
 use Rattle.sa_lines.specs.Quotes.{quoted_at}
 use Rattle.sa_text.specs.Texts.{text_of}
@@ -7,6 +8,8 @@ use Rattle.sa_text.specs.declared.text_error.TextError.{TextError}
 use Rattle.sa_text.specs.declared.text_error.TextError.TheVariants as errors
 use Rattle.sa_text.specs.declared.value.Value.{Value}
 use Rattle.sa_text.specs.declared.value.Value.TheVariants.{Missing, Of}
+use Rattle.sa_plain.specs.declared.items.Items.{Items}
+use Rattle.sa_plain.specs.declared.items.Items.TheVariants.{Values, Ints}
 use Rattle.sa_script.specs.Limits.{most_items}
 
 -- The text that the bytes of a quoted one are. The outer none is no text, the inner none one that is too long.
@@ -42,28 +45,53 @@ abbrev pub item_at : List ℕ → Option (Option Value × List ℕ)
 item_at [] = None
 item_at (b ∷ bs) = if b == 110 then missing_at bs else (text_at (b ∷ bs) >>= λ t. Some (of_text t.0, t.1))
 
--- One more item of a list: none once an item was too long or there are more items than a list may have.
-abbrev pub one_more : Option (List Value) → Option Value → Option (List Value)
+-- the number of bytes in front of the first comma or closing bracket
+abbrev pub is_mark : ℕ → Bool
+is_mark b = (b == 44) || (b == 41)
+
+abbrev pub piece_size : List ℕ → ℕ
+piece_size bs = unwrap_or (position is_mark bs) (length bs)
+
+-- a number at the front, up to the next comma or closing bracket, none inside where it is no i64; and the bytes after it
+abbrev pub number_at : List ℕ → Option (Option ℤ × List ℕ)
+number_at bs = number_of (take (piece_size bs) bs) >>= λ n. Some (n, drop (piece_size bs) bs)
+
+-- One more item of a list: none once an item passed a limit or there are more items than a list may have.
+abbrev pub one_more : {A : Type 0} → Option (List A) → Option A → Option (List A)
 one_more None item = None
-one_more (Some values) None = None
-one_more (Some values) (Some value) = if nat_lt (length values) most_items then Some (values ++ value ∷ []) else None
+one_more (Some items) None = None
+one_more (Some items) (Some item) = if nat_lt (length items) most_items then Some (items ++ item ∷ []) else None
 
 abbrev pub uncons : List ℕ → Option (ℕ × List ℕ)
 uncons [] = None
 uncons (b ∷ bs) = Some (b, bs)
 
 -- one more item, the byte behind it, and the bytes after that
-abbrev pub further_at : Option (List Value) → List ℕ → Option (Option (List Value) × ℕ × List ℕ)
-further_at so_far bs = item_at bs >>= λ i. uncons i.1 >>= λ r. Some (one_more so_far i.0, r.0, r.1)
+abbrev pub further_at : {A : Type 0} → (List ℕ → Option (Option A × List ℕ)) → Option (List A) → List ℕ → Option (Option (List A) × ℕ × List ℕ)
+further_at item so_far bs = item bs >>= λ i. uncons i.1 >>= λ r. Some (one_more so_far i.0, r.0, r.1)
 
 -- at most this many items behind those read, a comma between two, and a closing bracket; and the bytes after it
-abbrev pub items_at : ℕ → Option (List Value) → List ℕ → Option (Option (List Value) × List ℕ)
-items_at zero so_far bs = None
-items_at (suc left) so_far bs =
-    further_at so_far bs >>= λ f.
-    if f.1 == 44 then items_at left f.0 f.2 else (if f.1 == 41 then Some (f.0, f.2) else None)
+abbrev pub items_at : {A : Type 0} → (List ℕ → Option (Option A × List ℕ)) → ℕ → Option (List A) → List ℕ → Option (Option (List A) × List ℕ)
+items_at item zero so_far bs = None
+items_at item (suc left) so_far bs =
+    further_at item so_far bs >>= λ f.
+    if f.1 == 44 then items_at item left f.0 f.2 else (if f.1 == 41 then Some (f.0, f.2) else None)
 
--- A token that is one item, or items in brackets. The outer none is no list, the inner none a list that passes a limit.
-abbrev pub list_of : List ℕ → Option (Option (List Value))
-list_of [] = None
-list_of (b ∷ bs) = if b == 40 then (items_at (length bs) (Some []) bs >>= nothing_left) else (item_at (b ∷ bs) >>= λ i. nothing_left (one_more (Some []) i.0, i.1))
+-- a token that is one such item, or such items in brackets
+abbrev pub list_as : {A : Type 0} → (List ℕ → Option (Option A × List ℕ)) → List ℕ → Option (Option (List A))
+list_as item [] = None
+list_as item (b ∷ bs) = if b == 40 then (items_at item (length bs) (Some []) bs >>= nothing_left) else (item (b ∷ bs) >>= λ i. nothing_left (one_more (Some []) i.0, i.1))
+
+-- the first byte of a text or of na
+abbrev pub begins_value : List ℕ → Bool
+begins_value [] = false
+begins_value (b ∷ bs) = (b == 34) || (b == 110)
+
+-- the first item of a list is a text or na
+abbrev pub has_values : List ℕ → Bool
+has_values [] = false
+has_values (b ∷ bs) = if b == 40 then begins_value bs else begins_value (b ∷ bs)
+
+-- A token that is a list, of texts and na or of numbers. The outer none is no list, the inner none a list that passes a limit.
+abbrev pub list_of : List ℕ → Option (Option Items)
+list_of token = if has_values token then option_map (λ items. option_map Values items) (list_as item_at token) else option_map (λ items. option_map Ints items) (list_as number_at token)

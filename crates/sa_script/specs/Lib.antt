@@ -3,6 +3,7 @@ pub use Rattle.sa_call.specs.Valid
 pub mod Contexts
 pub mod Faults
 pub mod Items
+pub mod Kinds
 pub mod Limits
 pub mod Names
 pub mod Resolving

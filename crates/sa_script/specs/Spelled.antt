@@ -1,8 +1,7 @@
 -- What holds of a statement that tokens spell: its names are names, its texts are texts, and a call's line has what the table asks for.
-use Rattle.std.specs.Prelude.{◌≡◌, Bool, true, List, [], ◌∷◌, Option, Some, is_some, is_none}
+use Rattle.std.specs.Prelude.{◌≡◌, ◌⊎◌, Bool, true, List, [], ◌∷◌, ◌++◌, Option, Some, is_some, is_none}
 use Rattle.std.specs.Option.{IfSome}
-use Rattle.sa_text.specs.declared.value.Value.{Value}
-use Rattle.sa_plain.specs.declared.items.Items.TheVariants.{Values}
+use Rattle.sa_plain.specs.declared.items.Items.{Items}
 use Rattle.sa_call.specs.declared.form.Sort.{Sort}
 use Rattle.sa_call.specs.declared.form.Sort.TheVariants as sort
 use Rattle.sa_call.specs.declared.form.Into.{Into}
@@ -19,19 +18,34 @@ use Rattle.sa_script.specs.Names.{name_of}
 use Rattle.sa_script.specs.Sound.{IsRule}
 
 -- a list that passes no limit is a literal
-abbrev pub IsList : Option (List Value) → Type 0
-IsList items = IfSome items (λ (values : List Value). IsLiteral (Values values))
+abbrev pub IsList : Option Items → Type 0
+IsList items = IfSome items (λ (given : Items). IsLiteral given)
 
 -- an operand of this sort
 abbrev pub IsTerm : Sort → Term → Type 0
 IsTerm sort.View (term.View v) = Unit {0}
 IsTerm sort.View (term.List items) = ⊥
+IsTerm sort.View (term.Fill items) = ⊥
 IsTerm sort.View (term.Descr name) = ⊥
 IsTerm sort.Literal (term.View v) = ⊥
 IsTerm sort.Literal (term.List items) = IsList items
+IsTerm sort.Literal (term.Fill items) = ⊥
 IsTerm sort.Literal (term.Descr name) = ⊥
+IsTerm sort.Texts (term.View v) = Unit {0}
+IsTerm sort.Texts (term.List items) = IsList items
+IsTerm sort.Texts (term.Fill items) = ⊥
+IsTerm sort.Texts (term.Descr name) = ⊥
+IsTerm sort.Numbers (term.View v) = Unit {0}
+IsTerm sort.Numbers (term.List items) = IsList items
+IsTerm sort.Numbers (term.Fill items) = ⊥
+IsTerm sort.Numbers (term.Descr name) = ⊥
+IsTerm sort.Fill (term.View v) = ⊥
+IsTerm sort.Fill (term.List items) = ⊥
+IsTerm sort.Fill (term.Fill items) = Unit {0}
+IsTerm sort.Fill (term.Descr name) = ⊥
 IsTerm sort.Descr (term.View v) = ⊥
 IsTerm sort.Descr (term.List items) = ⊥
+IsTerm sort.Descr (term.Fill items) = ⊥
 IsTerm sort.Descr (term.Descr name) = Unit {0}
 
 abbrev pub AreTerms : List Sort → List Term → Type 0
@@ -43,11 +57,13 @@ AreTerms (s ∷ ss) (t ∷ ts) = IsTerm s t × AreTerms ss ts
 -- an output stands where it must, and none where it never does
 abbrev pub output_given : Into → Option ViewTerm → Bool
 output_given into.Never out = is_none out
+output_given into.May out = true
 output_given into.Must out = is_some out
 output_given into.First out = is_some out
 
+-- a line has the operands of its call, with or without those that may be left out
 pub record IsLine (l : Line) : Type 0 where
-  pub terms : AreTerms (entry l.op).needs l.operands
+  pub terms : AreTerms (entry l.op).needs l.operands ⊎ AreTerms ((entry l.op).needs ++ (entry l.op).may) l.operands
   pub output : output_given (entry l.op).into l.out ≡ true
 
 abbrev pub IsSpelled : Statement → Type 0

@@ -1,10 +1,11 @@
 -- The statements of a script, each by the spelling of its tokens alone. Calls are read by the table of calls.
-use Rattle.std.specs.Prelude.{ℕ, ℤ, Bool, true, false, List, [], ◌∷◌, Option, Some, None, option_map, if◌then◌else◌, codes}
+use Rattle.std.specs.Prelude.{ℕ, ℤ, Bool, true, false, List, [], ◌∷◌, ◌++◌, Option, Some, None, option_map, if◌then◌else◌, codes}
 use Rattle.sa_lines.specs.Options.{◌>>=◌}
 use Rattle.sa_lines.specs.Numbers.{number_of}
 use Rattle.sa_lines.specs.Tokens.{is_word}
 use Rattle.sa_descr.specs.declared.descr.NaRule.{NaRule}
 use Rattle.sa_descr.specs.declared.descr.NaRule.TheVariants.{Absent, Nan, Other, Txt}
+use Rattle.sa_plain.specs.declared.items.Items.{Items}
 use Rattle.sa_call.specs.declared.call.Op.{Op}
 use Rattle.sa_call.specs.declared.form.Sort.{Sort}
 use Rattle.sa_call.specs.declared.form.Sort.TheVariants as sort
@@ -70,10 +71,18 @@ abbrev pub alone : Statement → List (List ℕ) → Option Statement
 alone s [] = Some s
 alone s (t ∷ ts) = None
 
+-- a token that is a list, or else a view
+abbrev pub list_or_view : Option (Option Items) → List ℕ → Option Term
+list_or_view None t = option_map (λ v. term.View v) (view_of t)
+list_or_view (Some items) t = Some (term.List items)
+
 -- a token as an operand of this sort
 abbrev pub term_of : Sort → List ℕ → Option Term
 term_of sort.View t = option_map (λ v. term.View v) (view_of t)
 term_of sort.Literal t = option_map (λ items. term.List items) (list_of t)
+term_of sort.Texts t = list_or_view (list_of t) t
+term_of sort.Numbers t = list_or_view (list_of t) t
+term_of sort.Fill t = option_map (λ items. term.Fill items) (list_of t)
 term_of sort.Descr t = option_map (λ name. term.Descr name) (name_of t)
 
 -- operands of these sorts, and the tokens after them
@@ -82,9 +91,27 @@ terms_of [] ts = Some ([], ts)
 terms_of (s ∷ ss) [] = None
 terms_of (s ∷ ss) (t ∷ ts) = term_of s t >>= λ term. terms_of ss ts >>= λ r. Some (term ∷ r.0, r.1)
 
+-- no token is left, or the word into comes next
+abbrev pub is_over : List (List ℕ) → Bool
+is_over [] = true
+is_over (t ∷ ts) = is_word (codes "into") t
+
+-- operands of these sorts, or none of them where no token is left or the word into comes next; and the tokens after them
+abbrev pub others_of : List Sort → List (List ℕ) → Option (List Term × List (List ℕ))
+others_of ss ts = if is_over ts then Some ([], ts) else terms_of ss ts
+
+-- these terms in front of those that were read
+abbrev pub behind_terms : List Term → Option (List Term × List (List ℕ)) → Option (List Term × List (List ℕ))
+behind_terms terms read = option_map (λ r. (terms ++ r.0, r.1)) read
+
+-- the operands of a call, with or without those that may be left out, and the tokens after them
+abbrev pub operands_of : Op → List (List ℕ) → Option (List Term × List (List ℕ))
+operands_of op ts = terms_of (entry op).needs ts >>= λ r. behind_terms r.0 (others_of (entry op).may r.1)
+
 -- an output in front of the operands, and the tokens after it
 abbrev pub front_of : Into → List (List ℕ) → Option (Option ViewTerm × List (List ℕ))
 front_of into.Never ts = Some (None, ts)
+front_of into.May ts = Some (None, ts)
 front_of into.Must ts = Some (None, ts)
 front_of into.First [] = None
 front_of into.First (t ∷ ts) = view_of t >>= λ v. Some (Some v, ts)
@@ -100,16 +127,22 @@ abbrev pub nothing_behind : {A : Type 0} → A → List (List ℕ) → Option A
 nothing_behind x [] = Some x
 nothing_behind x (t ∷ ts) = None
 
+-- nothing, or the word into and an output
+abbrev pub may_into : List (List ℕ) → Option (Option ViewTerm)
+may_into [] = Some None
+may_into (t ∷ ts) = into_of (t ∷ ts)
+
 -- an output behind the operands, where it stands there, and nothing else
 abbrev pub behind_of : Into → Option ViewTerm → List (List ℕ) → Option (Option ViewTerm)
 behind_of into.Never front ts = nothing_behind front ts
 behind_of into.First front ts = nothing_behind front ts
+behind_of into.May front ts = may_into ts
 behind_of into.Must front ts = into_of ts
 
 -- what follows a call's word, by its entry in the table
 abbrev pub call_of : Op → List (List ℕ) → Option Statement
 call_of op ts =
-    front_of (entry op).into ts >>= λ f. terms_of (entry op).needs f.1 >>= λ r.
+    front_of (entry op).into ts >>= λ f. operands_of op f.1 >>= λ r.
     behind_of (entry op).into f.0 r.1 >>= λ out. Some (Call (record { op = op; operands = r.0; out = out }))
 
 -- the statement that the tokens of a line spell

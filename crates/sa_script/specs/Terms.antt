@@ -4,12 +4,17 @@ use Rattle.std.specs.List.{list_any}
 use Rattle.sa_view.specs.Views.{natural, fits, is_zero}
 use Rattle.sa_view.specs.Slices.{slice_of}
 use Rattle.sa_view.specs.declared.view.View.{View}
-use Rattle.sa_plain.specs.declared.items.Items.TheVariants.{Values}
+use Rattle.sa_text.specs.declared.value.Value.{Value}
+use Rattle.sa_text.specs.declared.value.Value.TheVariants.{Missing, Of}
+use Rattle.sa_plain.specs.declared.items.Items.{Items}
+use Rattle.sa_plain.specs.declared.items.Items.TheVariants.{Values, Ints}
 use Rattle.sa_call.specs.declared.call.Op.{Op}
 use Rattle.sa_call.specs.declared.call.Operand.{Operand}
 use Rattle.sa_call.specs.declared.call.Operand.TheVariants as operand
 use Rattle.sa_call.specs.declared.call.Call.{Call}
-use Rattle.sa_call.specs.Forms.{on_descr}
+use Rattle.sa_call.specs.declared.form.Sort.TheVariants as sort
+use Rattle.sa_call.specs.Forms.{on_descr, with_fill}
+use Rattle.sa_call.specs.Valid.{is_kind}
 use Rattle.sa_script.specs.declared.context.Context.{Context}
 use Rattle.sa_script.specs.declared.statement.Span.{Span}
 use Rattle.sa_script.specs.declared.statement.Span.TheVariants.{Whole, Strided, Slice}
@@ -83,6 +88,7 @@ view_in c v = view_at (used_array c v.name) (used_length c v.name) v.span
 abbrev pub term_slices : Term → Bool
 term_slices (term.View v) = is_slice v.span
 term_slices (term.List items) = false
+term_slices (term.Fill items) = false
 term_slices (term.Descr name) = false
 
 abbrev pub view_misnamed : Context → ViewTerm → Bool
@@ -94,17 +100,57 @@ view_unfit c v = not (span_fits (used_array c v.name) (used_length c v.name) v.s
 abbrev pub term_misnamed : Context → Term → Bool
 term_misnamed c (term.View v) = view_misnamed c v
 term_misnamed c (term.List items) = false
+term_misnamed c (term.Fill items) = false
 term_misnamed c (term.Descr name) = is_none (descr_number c name)
 
 abbrev pub term_passes : Term → Bool
 term_passes (term.View v) = span_passes v.span
 term_passes (term.List items) = is_none items
+term_passes (term.Fill items) = is_none items
 term_passes (term.Descr name) = false
 
 abbrev pub term_unfit : Context → Term → Bool
 term_unfit c (term.View v) = view_unfit c v
 term_unfit c (term.List items) = false
+term_unfit c (term.Fill items) = false
 term_unfit c (term.Descr name) = false
+
+-- the items of a list; none of one that passes a limit
+abbrev pub given_items : Option Items → Items
+given_items items = unwrap_or items (Values [])
+
+-- the one code point of one text
+abbrev pub point_of : List ℕ → Option ℕ
+point_of [] = None
+point_of (p ∷ []) = Some p
+point_of (p ∷ q ∷ ps) = None
+
+abbrev pub value_point : Value → Option ℕ
+value_point Missing = None
+value_point (Of text) = point_of text
+
+abbrev pub values_point : List Value → Option ℕ
+values_point [] = None
+values_point (v ∷ []) = value_point v
+values_point (v ∷ w ∷ vs) = None
+
+-- the fill that a list is: the one code point of its one text
+abbrev pub fill_of : Items → Option ℕ
+fill_of (Values values) = values_point values
+fill_of (Ints numbers) = None
+
+-- of a fill: it is of another kind than texts, or has a missing value; it is not one text of one code point
+abbrev pub term_miskinded : Term → Bool
+term_miskinded (term.View v) = false
+term_miskinded (term.List items) = false
+term_miskinded (term.Fill items) = not (is_kind sort.Texts (operand.Literal (given_items items)))
+term_miskinded (term.Descr name) = false
+
+abbrev pub term_misfilled : Term → Bool
+term_misfilled (term.View v) = false
+term_misfilled (term.List items) = false
+term_misfilled (term.Fill items) = is_none (fill_of (given_items items))
+term_misfilled (term.Descr name) = false
 
 -- the same of an output
 abbrev pub of_output : (ViewTerm → Bool) → Option ViewTerm → Bool
@@ -120,21 +166,34 @@ line_misnamed c l = list_any (term_misnamed c) l.operands || of_output (view_mis
 abbrev pub line_passes : Line → Bool
 line_passes l = list_any term_passes l.operands || of_output (λ v. span_passes v.span) l.out
 
+abbrev pub line_miskinded : Line → Bool
+line_miskinded l = list_any term_miskinded l.operands
+
+abbrev pub line_misfilled : Line → Bool
+line_misfilled l = list_any term_misfilled l.operands
+
 abbrev pub line_unfit : Context → Line → Bool
 line_unfit c l = list_any (term_unfit c) l.operands || of_output (view_unfit c) l.out
 
--- the operands that a line means; a descriptor's name stands in the call itself
+-- the operands that a line means; a fill and a descriptor's name stand in the call itself
 abbrev pub operands_in : Context → List Term → List Operand
 operands_in c [] = []
 operands_in c (term.View v ∷ ts) = operand.View (view_in c v) ∷ operands_in c ts
-operands_in c (term.List items ∷ ts) = operand.Literal (Values (unwrap_or items [])) ∷ operands_in c ts
+operands_in c (term.List items ∷ ts) = operand.Literal (given_items items) ∷ operands_in c ts
+operands_in c (term.Fill items ∷ ts) = operands_in c ts
 operands_in c (term.Descr name ∷ ts) = operands_in c ts
 
--- the call on the descriptor that a line names
+-- the call with this fill; with its own where a list is no fill
+abbrev pub filled : Op → Option ℕ → Op
+filled op None = op
+filled op (Some fill) = with_fill op fill
+
+-- the call on the descriptor that a line names, and with its fill
 abbrev pub op_in : Context → Op → List Term → Op
 op_in c op [] = op
 op_in c op (term.View v ∷ ts) = op_in c op ts
 op_in c op (term.List items ∷ ts) = op_in c op ts
+op_in c op (term.Fill items ∷ ts) = op_in c (filled op (fill_of (given_items items))) ts
 op_in c op (term.Descr name ∷ ts) = op_in c (on_descr op (home_number c name)) ts
 
 -- the call that a line means

@@ -19,8 +19,15 @@ pub enum Cause {
     /// A view is none of its array: start or count is no u32, the step is no i32, that of a slice is 0, or
     /// it does not fit.
     View,
+    /// An operand or the fill is of another kind than the call takes, or has a missing value where none may
+    /// stand.
+    Kind,
     /// The counts of operands and output do not fit.
     Lengths,
+    /// Two descriptors of the call's views have rules that differ.
+    Clash,
+    /// The fill is not one text of one code point.
+    Fill,
     /// There is no end.
     Cut,
 }
@@ -37,7 +44,10 @@ impl Cause {
             Cause::Name => 4,
             Cause::Limit => 5,
             Cause::View => 6,
+            Cause::Kind => 7,
             Cause::Lengths => 8,
+            Cause::Clash => 9,
+            Cause::Fill => 10,
             Cause::Cut => 11,
         }
     }

@@ -3,13 +3,15 @@ ghost use Rattle.std.specs.List.{AllByRecursion};
 ghost use Rattle.sa_call.specs.Calls.{lengths_fit, operand_count};
 ghost use Rattle.sa_call.specs.Decls.{entries_of};
 ghost use Rattle.sa_call.specs.Valid.{IsLiteralOperand};
-ghost use Rattle.sa_script.specs.Contexts.{home_number, is_known, descr_number};
+ghost use Rattle.sa_script.specs.Contexts.{declared_in, home_number, is_known, descr_number};
 ghost use Rattle.sa_script.specs.Faults.{fault_of, has_tasks, is_long, passes_entries};
-ghost use Rattle.sa_script.specs.Resolving.{call_fault};
+ghost use Rattle.sa_script.specs.Resolving.{call_fault, IsMeant};
+ghost use Rattle.sa_script.specs.SoundContexts.{IsSoundContext};
 ghost use Rattle.sa_script.specs.declared.statement.Statement.{Statement};
 
 use crate::cause::Cause;
 use crate::context::Context;
+use crate::kinds::kinds_fit;
 use crate::name::Name;
 use crate::resolving::Resolved;
 use sa_base::Memory;
@@ -106,7 +108,8 @@ impl Context {
         slices: bool,
         call: &Resolved,
     ) -> Result<Option<Cause>, Memory>
-        requires { call.now.passes ≡ false → call.now.unfit ≡ false → AllByRecursion IsLiteralOperand call.now.call.operands }
+        requires sound { IsSoundContext self.now }
+        requires meant { call.now.misnamed ≡ false → call.now.passes ≡ false → call.now.unfit ≡ false → IsMeant (declared_in self.now) call.now.call }
         ensures { IfOk result (λ fault. fault ≡ call_fault self.now slices call.now) }
     {
         if self.version == 1 && slices {
@@ -119,8 +122,14 @@ impl Context {
             Ok(Some(Cause::Limit))
         } else if call.unfit {
             Ok(Some(Cause::View))
+        } else if call.miskinded || !kinds_fit(call.call.op, call.call.operands.as_slice()) {
+            Ok(Some(Cause::Kind))
         } else if !lengths_fit(alloc, &call.call)? {
             Ok(Some(Cause::Lengths))
+        } else if !self.rules_fit(alloc, &call.call)? {
+            Ok(Some(Cause::Clash))
+        } else if call.misfilled {
+            Ok(Some(Cause::Fill))
         } else {
             Ok(None)
         }

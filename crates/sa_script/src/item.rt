@@ -1,15 +1,17 @@
-ghost use Rattle.std.specs.Prelude.{◌≡◌, ◌≤◌, [], Some, option_map, IfOk, OnOk, length, take};
+ghost use Rattle.std.specs.Prelude.{◌≡◌, ◌≤◌, [], Some, option_map, IfOk, OnOk, length, take, ◌==◌, ◌||◌};
 ghost use Rattle.sa_text.specs.Texts.{text_of};
-ghost use Rattle.sa_script.specs.Items.{fitting, text_at, text_token, item_at, further_at, items_at, of_text, one_more, list_of, missing_at};
+ghost use Rattle.sa_script.specs.Items.{fitting, text_at, text_token, item_at, further_at, items_at, of_text, one_more, list_as, list_of, missing_at, begins_value, has_values};
+ghost use Rattle.sa_plain.specs.declared.items.Items.TheVariants.{Values, Ints};
 
+use crate::number_list::number_list;
 use sa_base::Memory;
 use sa_lines::{first, plain_at, quoted_at};
-use sa_plain::ValueList;
+use sa_plain::{IntList, Items, ValueList};
 use sa_text::{Text, TextError, Value};
 use std::alloc::Global;
 
 /// The most items of one literal list.
-const MOST_ITEMS: usize = 8192;
+pub(crate) const MOST_ITEMS: usize = 8192;
 
 /// The text that the first `size` bytes are; none inside where they are too many, and none where they
 /// are no UTF-8.
@@ -141,7 +143,7 @@ fn further_at<'a>(
     so_far: &mut Option<ValueList>,
     bytes: &'a [u8],
 ) -> Result<Option<(u8, &'a [u8])>, Memory>
-    ensures { IfOk result (λ r. option_map (λ x. (so_far.new, x.0, x.1.now)) r ≡ further_at so_far.old bytes.now) }
+    ensures { IfOk result (λ r. option_map (λ x. (so_far.new, x.0, x.1.now)) r ≡ further_at item_at so_far.old bytes.now) }
 {
     let Some((item, behind)) = item_at(alloc, scratch, bytes)? else {
         return Ok(None);
@@ -160,7 +162,7 @@ fn items_at<'a>(
     scratch: &mut Vec<u8>,
     bytes: &'a [u8],
 ) -> Result<Option<(Option<ValueList>, &'a [u8])>, Memory>
-    ensures { IfOk result (λ r. option_map (λ x. (x.0, x.1.now)) r ≡ items_at (length bytes.now) (Some []) bytes.now) }
+    ensures { IfOk result (λ r. option_map (λ x. (x.0, x.1.now)) r ≡ items_at item_at (length bytes.now) (Some []) bytes.now) }
 {
     let mut so_far = Some(ValueList::new(alloc));
     let mut rest = bytes;
@@ -179,14 +181,14 @@ fn items_at<'a>(
     Ok(None)
 }
 
-/// Reads a token that is a list: one item, or items in brackets. The outer none is no list, the
-/// inner none a list that passes a limit.
-pub fn list_of(
+/// Reads a token that is one text or `na`, or a list of these in brackets. The outer none is no such list,
+/// the inner none a list that passes a limit.
+fn value_list(
     alloc: Global,
     scratch: &mut Vec<u8>,
     token: &[u8],
 ) -> Result<Option<Option<ValueList>>, Memory>
-    ensures { IfOk result (λ r. r ≡ list_of token.now) }
+    ensures { IfOk result (λ r. r ≡ list_as item_at token.now) }
 {
     let Some((byte, others)) = first(token) else {
         return Ok(None);
@@ -204,5 +206,65 @@ pub fn list_of(
             Ok(Some(list))
         }
         _ => Ok(None),
+    }
+}
+
+/// Reads a token that is a list: one item, or items in brackets, of one kind. The outer none is no list,
+/// the inner none a list that passes a limit.
+pub fn list_of(
+    alloc: Global,
+    scratch: &mut Vec<u8>,
+    token: &[u8],
+) -> Result<Option<Option<Items>>, Memory>
+    ensures { IfOk result (λ r. r ≡ list_of token.now) }
+{
+    if has_values(token) {
+        return match value_list(alloc, scratch, token)? {
+            Some(values) => Ok(Some(of_values(values))),
+            None => Ok(None),
+        };
+    }
+    match number_list(alloc, token)? {
+        Some(numbers) => Ok(Some(of_numbers(numbers))),
+        None => Ok(None),
+    }
+}
+
+/// Whether the first item of a list is a text or `na`.
+fn has_values(token: &[u8]) -> bool
+    ensures { result ≡ has_values token.now }
+{
+    match first(token) {
+        Some((b'(', rest)) => begins_value(rest),
+        Some(_) => begins_value(token),
+        None => false,
+    }
+}
+
+/// Whether the first byte is that of a text or of `na`.
+fn begins_value(bytes: &[u8]) -> bool
+    ensures { result ≡ begins_value bytes.now }
+{
+    match first(bytes) {
+        Some((byte, _)) => byte == b'"' || byte == b'n',
+        None => false,
+    }
+}
+
+fn of_values(list: Option<ValueList>) -> Option<Items>
+    ensures { result ≡ option_map Values list }
+{
+    match list {
+        Some(values) => Some(Items::Values(values)),
+        None => None,
+    }
+}
+
+fn of_numbers(list: Option<IntList>) -> Option<Items>
+    ensures { result ≡ option_map Ints list }
+{
+    match list {
+        Some(numbers) => Some(Items::Ints(numbers)),
+        None => None,
     }
 }

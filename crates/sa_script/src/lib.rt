@@ -12,6 +12,11 @@
 //! | `set VIEW LIST` | a call that puts the texts and missing values of LIST into a view |
 //! | `copy VIEW into VIEW` | a call that puts the items of the first view into the second |
 //! | `show VIEW` | a call that answers the items of a view |
+//! | `add T T` | a call that makes two texts one |
+//! | `multiply T I` | a call that repeats a text |
+//! | `center T I`, `ljust T I`, `rjust T I` | calls that fill a text up to a width. FILL may follow, a list of one text of one code point; without it the fill is a space |
+//! | `zfill T I` | a call that fills a text with zeros behind its sign |
+//! | `strip T`, `lstrip T`, `rstrip T` | calls that take spaces away at both ends of a text, in front, or at the end. T may follow, a text whose code points are taken away instead |
 //! | `stats DESCR` | a call that answers the statistics of a descriptor |
 //! | `image DESCR` | a call that answers the picture of a descriptor |
 //! | `end` | the script ends |
@@ -22,6 +27,11 @@
 //! |---|---|
 //! | `NAME[start,count,step]` | those at start, start + step and so on, count of them |
 //! | `NAME[from:to]`, `NAME[from:to:step]` | those of Python's slice; each number may be left out. In version 2 alone |
+//!
+//! A LIST is one item, or items in brackets with commas between them, without blanks: texts and `na`, or
+//! numbers. T is a view or a list of texts, and I a list of numbers. The lines of calls that make texts may go on
+//! with `into VIEW`. Where operands may follow they are left out before the word `into` and at the end of
+//! the line.
 //!
 //! One item of a list or a view is put into each place of an output. Calls are read by the table of
 //! calls (`sa_call::Op::form`). Declarations stand before the first task, and calls in a task. Bytes that
@@ -36,7 +46,10 @@
 //! | 4 | a name that is declared already, or used and not declared, or declared as the other sort |
 //! | 5 | a limit is passed, a length is below 0, or a number is no i64 |
 //! | 6 | a view is none of its array: start or count is no u32, the step is no i32, that of a slice is 0, or it does not fit |
+//! | 7 | an operand or the fill is of another kind than the call takes, or has `na` where only `set` may have it |
 //! | 8 | the count of an operand is neither 1 nor the output's |
+//! | 9 | two descriptors of the views of a call, its output included, have rules that are not `absent` and differ; `set`, `copy` and `show` do not ask |
+//! | 10 | the fill is not one text of one code point |
 //! | 11 | there is no end; the line is the last one, 0 where there is none |
 //!
 //! The limits are 8 descriptors, 64 arrays, 8,192 entries of all arrays of a descriptor together, 64
@@ -49,12 +62,15 @@
 #![tactic(auto)]
 
 mod cause;
+mod clashes;
 mod context;
 mod fault;
 mod faults;
 mod item;
+mod kinds;
 mod name;
 mod names;
+mod number_list;
 mod parsing;
 mod reading;
 mod resolving;

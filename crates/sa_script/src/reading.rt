@@ -1,6 +1,7 @@
 ghost use Rattle.std.specs.Prelude.{◌≡◌, Option, option_map, IfOk, Some, None, MatchOption};
 ghost use Rattle.sa_lines.specs.Tokens.{tokens_of};
-ghost use Rattle.sa_script.specs.Statements.{statement_of, version_of, descr_of, array_of, call_of, rule_of, text_rule_of, coerce_of, length_of, alone, front_of, term_of, terms_of, into_of, behind_of};
+ghost use Rattle.sa_script.specs.Items.{list_of};
+ghost use Rattle.sa_script.specs.Statements.{statement_of, version_of, descr_of, array_of, call_of, rule_of, text_rule_of, coerce_of, length_of, alone, front_of, term_of, terms_of, is_over, behind_terms, operands_of, list_or_view, into_of, may_into, behind_of};
 
 use crate::item::{list_of, text_token};
 use crate::name::name_of;
@@ -188,7 +189,7 @@ fn call_of<'a>(
     let Some((front, rest)) = front_of(form.into, line) else {
         return Ok(None);
     };
-    let Some((operands, rest)) = terms_of(alloc, scratch, form.needs, rest)? else {
+    let Some((operands, rest)) = operands_of(alloc, scratch, op, rest)? else {
         return Ok(None);
     };
     let Some(out) = behind_of(form.into, front, rest) else {
@@ -202,7 +203,7 @@ fn front_of(into: Into, line: &[u8]) -> Option<(Option<ViewTerm<'_>>, &[u8])>
     ensures { option_map (λ x. (x.0, tokens_of x.1.now)) result ≡ front_of into (tokens_of line.now) }
 {
     match into {
-        Into::Never | Into::Must => Some((None, line)),
+        Into::Never | Into::May | Into::Must => Some((None, line)),
         Into::First => {
             let (token, rest) = next_token(line)?;
             let out = view_of(token)?;
@@ -211,16 +212,49 @@ fn front_of(into: Into, line: &[u8]) -> Option<(Option<ViewTerm<'_>>, &[u8])>
     }
 }
 
-/// Operands of these sorts, and what follows them.
+/// The operands of a call, with or without those that may be left out, and what follows them.
+fn operands_of<'a>(
+    alloc: Global,
+    scratch: &mut Vec<u8>,
+    op: Op,
+    line: &'a [u8],
+) -> Result<Option<(Sequence<Term<'a>>, &'a [u8])>, Memory>
+    ensures { IfOk result (λ r. option_map (λ x. (x.0, tokens_of x.1.now)) r ≡ operands_of op (tokens_of line.now)) }
+{
+    let form = op.form();
+    let mut terms = Sequence::new(alloc);
+    let Some(rest) = terms_of(alloc, scratch, &mut terms, form.needs, line)? else {
+        return Ok(None);
+    };
+    if is_over(rest) {
+        return Ok(Some((terms, rest)));
+    }
+    match terms_of(alloc, scratch, &mut terms, form.may, rest)? {
+        Some(rest) => Ok(Some((terms, rest))),
+        None => Ok(None),
+    }
+}
+
+/// Whether no token is left, or the word `into` comes next.
+fn is_over(line: &[u8]) -> bool
+    ensures { result ≡ is_over (tokens_of line.now) }
+{
+    match next_token(line) {
+        Some((word, _)) => is_word(b"into", word),
+        None => true,
+    }
+}
+
+/// Puts operands of these sorts behind others, and answers what follows them.
 fn terms_of<'a>(
     alloc: Global,
     scratch: &mut Vec<u8>,
+    terms: &mut Sequence<Term<'a>>,
     needs: &[Sort],
     line: &'a [u8],
-) -> Result<Option<(Sequence<Term<'a>>, &'a [u8])>, Memory>
-    ensures { IfOk result (λ r. option_map (λ x. (x.0, tokens_of x.1.now)) r ≡ terms_of needs.now (tokens_of line.now)) }
+) -> Result<Option<&'a [u8]>, Memory>
+    ensures { IfOk result (λ r. option_map (λ x. (terms.new, tokens_of x.now)) r ≡ behind_terms terms.old (terms_of needs.now (tokens_of line.now))) }
 {
-    let mut terms = Sequence::new(alloc);
     let mut rest = line;
     'sorts: for sort in needs {
         let Some((token, others)) = next_token(rest) else {
@@ -232,7 +266,7 @@ fn terms_of<'a>(
         terms.push(term)?;
         rest = others;
     }
-    Ok(Some((terms, rest)))
+    Ok(Some(rest))
 }
 
 /// A token as an operand of this sort.
@@ -253,10 +287,32 @@ fn term_of<'a>(
             Some(items) => Ok(Some(Term::List(items))),
             None => Ok(None),
         },
+        Sort::Texts | Sort::Numbers => list_or_view(alloc, scratch, token),
+        Sort::Fill => match list_of(alloc, scratch, token)? {
+            Some(items) => Ok(Some(Term::Fill(items))),
+            None => Ok(None),
+        },
         Sort::Descr => match name_of(token) {
             Some(name) => Ok(Some(Term::Descr(name))),
             None => Ok(None),
         },
+    }
+}
+
+/// A token that is a list, or else a view.
+fn list_or_view<'a>(
+    alloc: Global,
+    scratch: &mut Vec<u8>,
+    token: &'a [u8],
+) -> Result<Option<Term<'a>>, Memory>
+    ensures { IfOk result (λ t. t ≡ list_or_view (list_of token.now) token.now) }
+{
+    if let Some(items) = list_of(alloc, scratch, token)? {
+        return Ok(Some(Term::List(items)));
+    }
+    match view_of(token) {
+        Some(view) => Ok(Some(Term::View(view))),
+        None => Ok(None),
     }
 }
 
@@ -273,7 +329,18 @@ fn behind_of<'a>(
             None => Some(front),
             Some(_) => None,
         },
+        Into::May => may_into(line),
         Into::Must => into_of(line),
+    }
+}
+
+/// Nothing, or the word `into` and an output.
+fn may_into(line: &[u8]) -> Option<Option<ViewTerm<'_>>>
+    ensures { result ≡ may_into (tokens_of line.now) }
+{
+    match next_token(line) {
+        None => Some(None),
+        Some(_) => into_of(line),
     }
 }
 

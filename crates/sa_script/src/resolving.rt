@@ -3,10 +3,11 @@ ghost use Rattle.sa_call.specs.Decls.{length_at};
 ghost use Rattle.sa_view.specs.Views.{natural};
 ghost use Rattle.sa_script.specs.Resolving.{IsResolved, IsTaken, AreTaken, fitting_view};
 ghost use Rattle.sa_script.specs.SoundContexts.{IsSoundContext};
-ghost use Rattle.sa_script.specs.Terms.{is_u32, is_step, given, view_misnamed, view_unfit, view_in, term_slices, line_slices, is_slice, of_output, span_passes, is_past};
+ghost use Rattle.sa_script.specs.Terms.{is_u32, is_step, given, view_misnamed, view_unfit, view_in, term_slices, line_slices, is_slice, of_output, span_passes, is_past, given_items};
 ghost use Rattle.std.specs.List.{list_any};
 
 use crate::context::Context;
+use crate::kinds::{are_texts, fill_of, filled};
 use crate::statement::{Line, Span, Term, ViewTerm};
 use sa_base::{Memory, Sequence};
 use sa_call::{Call, Items, Op, Operand, OperandList, ValueList, View};
@@ -21,6 +22,10 @@ pub struct Resolved {
     pub passes: bool,
     /// A view is none of its array.
     pub unfit: bool,
+    /// A fill is of another kind than texts, or has a missing value.
+    pub miskinded: bool,
+    /// A fill is not one text of one code point.
+    pub misfilled: bool,
     /// The call, where each view is one of its array.
     pub call: Call,
 }
@@ -64,6 +69,8 @@ impl Context {
             misnamed: false,
             passes: false,
             unfit: false,
+            miskinded: false,
+            misfilled: false,
             call: Call {
                 op,
                 operands: OperandList::new(alloc),
@@ -97,12 +104,18 @@ impl Context {
             }
             Term::List(items) => {
                 resolved.passes = resolved.passes || items.is_none();
-                let mut items = items.unwrap_or(ValueList::new(alloc));
+                let mut items = given_items(alloc, items);
                 items.share(alloc)?;
-                resolved
-                    .call
-                    .operands
-                    .push(Operand::Literal(Items::Values(items)))?;
+                resolved.call.operands.push(Operand::Literal(items))?;
+                Ok(())
+            }
+            Term::Fill(items) => {
+                resolved.passes = resolved.passes || items.is_none();
+                let items = given_items(alloc, items);
+                let fill = fill_of(&items);
+                resolved.miskinded = resolved.miskinded || !are_texts(&items);
+                resolved.misfilled = resolved.misfilled || fill.is_none();
+                resolved.call.op = filled(resolved.call.op, fill);
                 Ok(())
             }
             Term::Descr(name) => {
@@ -152,11 +165,23 @@ impl Resolved {
         ensures misnamed { self.new.misnamed ≡ (self.old.misnamed || view.now.misnamed) }
         ensures passes { self.new.passes ≡ (self.old.passes || view.now.passes) }
         ensures unfit { self.new.unfit ≡ (self.old.unfit || is_none view.now.view) }
+        ensures miskinded { self.new.miskinded ≡ self.old.miskinded }
+        ensures misfilled { self.new.misfilled ≡ self.old.misfilled }
         ensures call { self.new.call ≡ self.old.call }
     {
         self.misnamed = self.misnamed || view.misnamed;
         self.passes = self.passes || view.passes;
         self.unfit = self.unfit || view.view.is_none();
+    }
+}
+
+/// The items of a list; none of one that passes a limit.
+fn given_items(alloc: Global, items: Option<Items>) -> Items
+    ensures { result ≡ given_items items }
+{
+    match items {
+        Some(items) => items,
+        None => Items::Values(ValueList::new(alloc)),
     }
 }
 
@@ -179,7 +204,7 @@ fn is_slice_term(term: &Term<'_>) -> bool
 {
     match term {
         Term::View(view) => matches!(view.span, Span::Slice(_, _, _)),
-        Term::List(_) | Term::Descr(_) => false,
+        Term::List(_) | Term::Fill(_) | Term::Descr(_) => false,
     }
 }
 

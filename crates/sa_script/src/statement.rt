@@ -2,7 +2,7 @@ use crate::name::Name;
 use sa_base::Sequence;
 use sa_call::Op;
 use sa_descr::NaRule;
-use sa_plain::ValueList;
+use sa_plain::Items;
 
 /// A statement, as its line spells it. What passes a limit is none inside: a text that is too long, a
 /// number that is no i64, a list that is too long or has such a text.
@@ -36,7 +36,9 @@ pub enum Term<'a> {
     /// A view of an array.
     View(ViewTerm<'a>),
     /// A list of items.
-    List(Option<ValueList>),
+    List(Option<Items>),
+    /// A list that is the fill.
+    Fill(Option<Items>),
     /// The name of a descriptor.
     Descr(Name<'a>),
 }

@@ -1,4 +1,5 @@
 mod limits;
+mod making;
 mod meaning;
 mod views;
 
@@ -183,6 +184,7 @@ ok array b d str 0
 ok array b d str -0
 ok array b d str 007
 ok array b d str 8190
+ok array add d str 1
 2:3 array b d str
 2:3 array b d 1
 2:3 array b d str 1 1
@@ -238,7 +240,7 @@ ok set one (\"x\")
 ok stats d
 ok image d
 2:6 task 1
-2:6 add a \"x\"
+2:6 find a \"x\"
 2:6 show
 2:6 show na
 2:6 show \"a\"
@@ -249,7 +251,7 @@ ok image d
 2:6 set a a
 2:6 set a na na
 2:6 set na na
-2:6 set a 5
+7:6 set a 5
 2:6 set a true
 2:6 set a hex:00
 2:6 set a (na,5)

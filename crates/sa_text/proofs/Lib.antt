@@ -1,1 +1,4 @@
 pub mod TextLemmas
+pub mod PointLemmas
+pub mod SearchLemmas
+pub mod MakingLemmas

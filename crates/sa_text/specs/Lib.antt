@@ -1,4 +1,9 @@
 pub use Rattle.sa_base.specs.Items
+pub mod Building
 pub mod Lists
+pub mod Making
+pub mod Points
+pub mod Searches
+pub mod Spaces
 pub mod Texts
 pub mod Values

@@ -107,6 +107,28 @@ impl Text {
         Ok(Text { bytes })
     }
 
+    /// The text of bytes that are UTF-8 and at most 65,536, which are not tested again. It takes no memory.
+    #[inline]
+    pub fn from_shared(bytes: SharedBytes) -> Text
+        requires utf8 { IsUtf8 bytes }
+        requires short { length bytes ≤ most_bytes }
+        ensures { result ≡ chars bytes }
+    {
+        Text { bytes }
+    }
+
+    /// The text of `size` of its bytes from a place on, which are UTF-8. It takes no memory; `Memory`
+    /// means that there are too many copies to be counted.
+    #[inline]
+    pub fn part(&self, start: usize, size: usize) -> Result<Text, Memory>
+        requires within { start + size ≤ text_size self.now }
+        requires utf8 { IsUtf8 (take size (drop start (encode_utf8_all self.now))) }
+        ensures { IfOk result (λ t. t ≡ chars (take size (drop start (encode_utf8_all self.now)))) }
+    {
+        let bytes = self.bytes.part(start, size)?;
+        Ok(Text { bytes })
+    }
+
     /// The same text once more. It takes no memory; `Memory` means that there are too many copies to be
     /// counted.
     #[inline]

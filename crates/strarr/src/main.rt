@@ -2,7 +2,6 @@
 //! writes its report to standard output.
 #![tactic(auto)]
 
-mod runner;
 mod status;
 mod streams;
 mod top;

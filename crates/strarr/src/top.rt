@@ -3,13 +3,13 @@ ghost use Rattle.strarr.specs.Outputs.{answer_of, command_of, output_of};
 ghost use Rattle.strarr.specs.Endings.{Ends, Completes, Responds};
 ghost use Rattle.strarr.specs.declared.status.Status.TheVariants as status;
 
-use crate::runner::run_serial;
 use crate::status::Status;
 use crate::streams::{read_all, write_all};
 use crate::words::read_words;
 use sa_base::{Memory, Sink, Source};
 use sa_report::{fault_line, report};
 use sa_script::{ScriptFault, parse};
+use sa_work::run_serial;
 use std::alloc::Global;
 
 /// Runs the program: reads the words, the input and its script, performs it on one thread, and writes

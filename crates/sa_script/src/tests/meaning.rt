@@ -18,6 +18,9 @@ task
 task
 set c[0,2,2] \"\"
 copy a[::-1] into c[1,2,1]
+center c 5 \"é\" into c
+rjust c -007
+strip c
 show c
 image g
 end
@@ -41,6 +44,12 @@ Sequence { items: [\
     out: Some(View { array: 2, start: 0, count: 2, step: 2 }) }, \
     Call { op: Copy, operands: Sequence { items: [View(View { array: 1, start: 1, count: 2, step: -1 })] }, \
     out: Some(View { array: 2, start: 1, count: 2, step: 1 }) }, \
+    Call { op: Center('é'), operands: Sequence { items: [View(View { array: 2, start: 0, count: 3, step: 1 }), Literal(Ints(Sequence { items: [5] }))] }, \
+    out: Some(View { array: 2, start: 0, count: 3, step: 1 }) }, \
+    Call { op: Rjust(' '), operands: Sequence { items: [View(View { array: 2, start: 0, count: 3, step: 1 }), Literal(Ints(Sequence { items: [-7] }))] }, \
+    out: None }, \
+    Call { op: Strip, operands: Sequence { items: [View(View { array: 2, start: 0, count: 3, step: 1 })] }, \
+    out: None }, \
     Call { op: Show, operands: Sequence { items: [View(View { array: 2, start: 0, count: 3, step: 1 })] }, \
     out: None }, \
     Call { op: Image(3), operands: Sequence { items: [] }, \

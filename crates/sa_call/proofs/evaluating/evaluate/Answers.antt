@@ -15,7 +15,7 @@ returns-in-Stats c =
     let call = c.args.call.now in
     let valid = c.requires.call in
     let given = rw c.in-Stats.is at c.requires.read in
-    rw c.in-Stats.is (λ weights are. c.answered.ensures ∙ stats-decide c.args.decls.now call.op call.operands call.out c.in-Stats.stats weights given valid.sorts valid.output valid.descr)
+    rw c.in-Stats.is (λ weights are. c.answered.ensures ∙ stats-decide c.args.decls.now call c.in-Stats.stats weights given valid)
 
 pub returns-in-Picture : goal.returns-in-Picture
 returns-in-Picture c =
@@ -23,7 +23,7 @@ returns-in-Picture c =
     let valid = c.requires.call in
     let given = rw c.in-Picture.is at c.requires.read in
     rw c.in-Picture.is (MatchResult-weaker c.drawn.result c.drawn.ensures
-    (λ o e weights are. e ∙ picture-decide c.args.decls.now call.op call.operands call.out c.in-Picture.picture weights given.0 valid.sorts valid.output valid.descr) (λ m t. t))
+    (λ o e weights are. e ∙ picture-decide c.args.decls.now call c.in-Picture.picture weights given.0 valid) (λ m t. t))
 
 pub returns-in-Items : goal.returns-in-Items
 returns-in-Items c =

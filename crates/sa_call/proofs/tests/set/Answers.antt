@@ -19,4 +19,4 @@ evaluate-requires-clause-call c =
     let length = c.len-count.ensures in
     let lengths : (eqb (count_of c.args.items) 1 || eqb (count_of c.args.items) v.count) ≡ true = cc in
     subst (λ (os : List Operand). IsCall d (record { op = op.Set; operands = os; out = Some v })) (sym (c.from_vec.ensures ∙ c.in_ok-vec.ensures.items))
-    (set-valid d c.args.items v c.in_ok-decls.ensures.1 array fit (omega arith) (omega arith) c.requires lengths)
+    (set-valid d c.args.items v c.in_ok-decls.ensures.1 array fit (omega arith) (omega arith) c.requires.texts c.requires.values lengths)

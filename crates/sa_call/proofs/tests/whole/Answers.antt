@@ -8,4 +8,4 @@ pub evaluate-requires-clause-call : goal.evaluate-requires-clause-call
 evaluate-requires-clause-call c =
     let r = c.requires in
     subst (λ (os : List Operand). IsCall c.in_ok-decls.decls (record { op = c.args.op; operands = os; out = None })) (sym c.new.ensures)
-    (whole-valid c.in_ok-decls.decls c.args.op c.in_ok-decls.ensures.0 r.takes r.never r.first)
+    (whole-valid c.in_ok-decls.decls c.args.op c.in_ok-decls.ensures.0 r.takes r.alone r.never r.moves r.first)

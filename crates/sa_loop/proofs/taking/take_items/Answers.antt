@@ -9,7 +9,7 @@ use Rattle.sa_loop.proofs.TakeLemmas.{are-held, are-short, given-same, taken-hea
 use Rattle.sa_loop.proofs.taking.take_items.Goals as goal
 
 pub literals_weight-requires : goal.literals_weight-requires
-literals_weight-requires g c = subst AreShort (sym c.as_slice-operands.ensures) (are-short c.args.decls.now c.args.call.now c.requires.can.valid)
+literals_weight-requires g c = subst AreShort (sym c.as_slice-operands.ensures) (are-short c.args.decls.now c.args.call.now c.requires.items c.requires.can.valid)
 
 pub views-requires : goal.views-requires
 views-requires g c =

@@ -1,14 +1,21 @@
 -- One more descriptor: the call is on it or not.
-use Rattle.std.proofs.Common.{◌≤◌, ◌*◌, ℕ, List, length, sum, sym, ap, ◌∙◌, arith}
+use Rattle.std.proofs.Common.{◌≤◌, ◌*◌, ℕ, List, length, sum, sym, ap, ◌∙◌, subst, arith}
 use Rattle.sa_call.specs.declared.call.Operand.{Operand}
 use Rattle.sa_call.specs.Forms.{entry}
 use Rattle.sa_call.specs.Told.{is_named}
+use Rattle.sa_loop.specs.Held.{AreHeld}
 use Rattle.sa_loop.specs.Runs.{shown}
 use Rattle.sa_loop.specs.Takes.{weight, weight_taken}
-use Rattle.sa_loop.proofs.TakeLemmas.{are-short, given-same}
+use Rattle.sa_loop.proofs.TakeLemmas.{are-held, are-short, given-same}
 use Rattle.sa_loop.proofs.WeighLemmas.{sum-more, weight-same, weights-named, weights-other}
 use Rattle.sa_loop.proofs.taking.weights.Goals as goal
 use Rattle.sa_loop.proofs.taking.weights.Goals.{then-is_named+in_ok-weight+in_ok-push, else-is_named}
+
+pub weight_at-requires-clause-held : goal.weight_at-requires-clause-held
+weight_at-requires-clause-held g c =
+    let has = g.R.Rooms.has c.args.rooms.now in
+    let layouts = g.R.Rooms.layouts c.args.rooms.now in
+    subst (λ (os : List Operand). AreHeld c.args.decls.now has layouts os) (sym c.as_slice-operands.ensures) (are-held c.args.decls.now has layouts c.args.call.now c.requires.can)
 
 pub loop-number-preserved : goal.loop-number-preserved
 loop-number-preserved g c =
@@ -23,7 +30,7 @@ loop-number-preserved g c =
           let named = sym c.is_named.ensures ∙ w.if-is_named.true in
           let one = w.in_ok-weight.ensures.weight ∙ ap (λ (os : List Operand). weight_taken d (s n) n os) w.as_slice-operands.ensures ∙ sym (weight-same (entry call.op).gives d (s n) call n (given-same call.op c.requires.items)) in
           let more = w.weights-is ∙ w.in_ok-push.ensures.ok in
-          let few = (are-short d call c.requires.can.valid).few in
+          let few = (are-short d call c.requires.items c.requires.can.valid).few in
           let lent = ap length w.as_slice-operands.ensures in
           let most : w.in_ok-weight.weight ≤ 537001984 * length w.as_slice-operands.result.now = w.in_ok-weight.ensures.most in
           record {

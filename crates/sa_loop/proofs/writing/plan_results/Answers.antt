@@ -6,7 +6,7 @@ use Rattle.sa_text.specs.declared.value.Value.{Value}
 use Rattle.sa_alloc.specs.Layouts.{first_entry, put_all}
 use Rattle.sa_alloc.specs.PlanValues.{PlanValue}
 use Rattle.sa_alloc.specs.Stores.{puts_from, puts_of}
-use Rattle.sa_plain.specs.Items.{count_of, values_of}
+use Rattle.sa_plain.specs.Items.{count_of}
 use Rattle.sa_plain.specs.declared.items.Items.{Items}
 use Rattle.sa_plain.specs.declared.items.Items.TheVariants.{Values}
 use Rattle.sa_view.specs.Views.{places_of}
@@ -20,29 +20,22 @@ ok_map : {T E : Type 0} {P Q : T → Type 0} (r : Result T E) → ((x : T) → P
 ok_map (Ok x) f p = f x p
 ok_map (Err e) f p = tt
 
-of-values : (items : Items) → Values (values_of items) ≡ items
-of-values (Values values) = refl
-
 pub places-requires : goal.places-requires
 places-requires c = fits-some c.args.decls.now c.args.store.now.contents.layout c.args.out.now c.requires.output
 
-many-are : (results : Items) → count_of results ≡ length (values_of results)
-many-are (Values values) = refl
-
 -- the values that are planned are the results
-results-are : (count : ℕ) (slice values : List Value) (results : Items) → values ≡ values_of results → values ≡ stretched (length values) slice → count_of results ≡ count → stretched count slice ≡ values_of results
-results-are count slice values results same told many =
-    ap (λ n. stretched n slice) (sym many ∙ (many-are results ∙ sym (ap length same))) ∙ (sym told ∙ same)
+results-are : (count : ℕ) (slice values : List Value) (results : Items) → results ≡ Values values → values ≡ stretched (length values) slice → count_of results ≡ count → stretched count slice ≡ values
+results-are count slice values results same told many = ap (λ n. stretched n slice) (sym many ∙ ap count_of same) ∙ sym told
 
 pub plan-requires : goal.plan-requires
 plan-requires c =
     let results = c.args.results.now in
     let r = ready c.args.decls.now c.args.store.now.contents.layout c.args.out.now c.index_at_home-index.result c.as_slice.result.now c.requires.output c.index_at_home-index.ensures (c.as_slice.ensures.value ∙ c.in_ok-places.ensures) in
     let many : count_of results ≡ length c.as_slice.result.now = c.requires.many ∙ sym r.count in
-    let same = results-are (length c.as_slice.result.now) c.as_slice-2.result.now c.as_value_list-values.result.now results c.as_value_list-values.ensures c.as_slice-2.ensures many in
+    let same = results-are (length c.as_slice.result.now) c.as_slice-2.result.now c.in-Values.values results c.in-Values.is c.as_slice-2.ensures many in
     record {
       array = r.index;
-      lengths = ap length same ∙ (sym (many-are results) ∙ many);
+      lengths = ap length same ∙ (sym (ap count_of c.in-Values.is) ∙ many);
       distinct = r.distinct;
       places = r.within;
     }
@@ -55,12 +48,12 @@ returns-clause-writes c =
     let out = c.args.out.now in
     let r = ready decls l out c.index_at_home-index.result c.as_slice.result.now c.requires.output c.index_at_home-index.ensures (c.as_slice.ensures.value ∙ c.in_ok-places.ensures) in
     let many : count_of results ≡ length c.as_slice.result.now = c.requires.many ∙ sym r.count in
-    let same = results-are (length c.as_slice.result.now) c.as_slice-2.result.now c.as_value_list-values.result.now results c.as_value_list-values.ensures c.as_slice-2.ensures many in
+    let same = results-are (length c.as_slice.result.now) c.as_slice-2.result.now c.in-Values.values results c.in-Values.is c.as_slice-2.ensures many in
     let puts = λ (k : ℕ) (ps : List ℕ) (vs : List Value). put_all l (puts_from (first_entry l.lengths k) (zip ps vs)) in
     ok_map c.plan.result (λ plan is.
     ap (λ (p : PlanValue). put_all l (puts_of l.lengths p)) is
     ∙ (ap (λ k. puts k c.as_slice.result.now (stretched (length c.as_slice.result.now) c.as_slice-2.result.now)) c.index_at_home-index.ensures
     ∙ (ap (λ ps. puts (index_at_home decls out.array) ps (stretched (length c.as_slice.result.now) c.as_slice-2.result.now)) (c.as_slice.ensures.value ∙ c.in_ok-places.ensures)
     ∙ (ap (λ vs. puts (index_at_home decls out.array) (places_of out) vs) same
-    ∙ (sym (results-put_all decls out l (values_of results))
-    ∙ ap (λ items. layout_written l (puts_told decls out items)) (of-values results)))))) c.plan.ensures.plan
+    ∙ (sym (results-put_all decls out l c.in-Values.values)
+    ∙ ap (λ items. layout_written l (puts_told decls out items)) (sym c.in-Values.is)))))) c.plan.ensures.plan

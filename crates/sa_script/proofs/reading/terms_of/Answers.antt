@@ -4,8 +4,8 @@ use Rattle.sa_call.specs.declared.form.Sort.{Sort}
 use Rattle.sa_script.specs.declared.statement.Term.{Term}
 use Rattle.sa_call.specs.declared.form.Sort.TheVariants as sort
 use Rattle.sa_lines.specs.Tokens.{tokens_of}
-use Rattle.sa_script.specs.Statements.{terms_of}
-use Rattle.sa_script.proofs.ReadingLemmas.{behind_terms, terms-untold, terms-misspelled, terms-more}
+use Rattle.sa_script.specs.Statements.{behind_terms, terms_of}
+use Rattle.sa_script.proofs.ReadingLemmas.{terms-untold, terms-misspelled, terms-more}
 use Rattle.sa_script.proofs.reading.terms_of.Goals as goal
 
 pub returns-in_default : goal.returns-in_default

@@ -1,6 +1,6 @@
 use Rattle.std.proofs.Common.{ap, ◌∙◌}
 use Rattle.sa_loop.specs.Histories.{calls_of}
-use Rattle.strarr.proofs.SerialLemmas.{serial-is-history}
+use Rattle.sa_work.proofs.SerialLemmas.{serial-is-history}
 use Rattle.strarr.proofs.top.answer.Goals as goal
 
 pub report-requires-clause-history : goal.report-requires-clause-history

@@ -24,6 +24,8 @@ returns c =
           (ap (λ (r : Resolved). r.misnamed) w.resolved-is ∙ note.misnamed ∙ ap (λ b. alone.misnamed || b) view.misnamed)
           (ap (λ (r : Resolved). r.passes) w.resolved-is ∙ note.passes ∙ ap (λ b. alone.passes || b) view.passes)
           (ap (λ (r : Resolved). r.unfit) w.resolved-is ∙ note.unfit ∙ ap (λ (o : Option View). alone.unfit || is_none o) view.view ∙ ap (λ b. alone.unfit || b) (none-unfit (view_unfit self v) (view_in self v)))
+          (ap (λ (r : Resolved). r.miskinded) w.resolved-is ∙ note.miskinded)
+          (ap (λ (r : Resolved). r.misfilled) w.resolved-is ∙ note.misfilled)
           (ap (λ (r : Resolved). r.call) w.resolved-is ∙ ap (λ (k : Call). record { op = k.op; operands = k.operands; out = w.resolved_view-out.result.view }) note.call ∙ ap (λ (o : Option View). record { op = alone.call.op; operands = alone.call.operands; out = o }) view.view))
       | in_default w ↦
           subst (λ o. IsResolved self (record { op = l.op; operands = l.operands; out = o }) told) (sym w.in_default.is)

@@ -1,0 +1,228 @@
+-- Calls by what they are on: the items of operands, or a descriptor as a whole. A call of the table has its line here, and no other lemma has cases by call.
+use Rattle.std.proofs.Common.{◌≡◌, ◌≤◌, ◌⊎◌, inl, inr, ℕ, suc, true, false, ◌||◌, Bool, cond, List, [], ◌∷◌, ◌++◌, length, take, Option, Some, None, refl, sym, ap, ◌∙◌, arith}
+use Rattle.std.specs.Option.{is_some, option_map}
+use Rattle.std.specs.List.{filter}
+use Rattle.std.proofs.lemmas.Bool.{and_parts, and_right, cases_Bool, false≢true, or_cases}
+use Rattle.std.proofs.lemmas.List.{length-append}
+use Rattle.sa_view.specs.declared.view.View.{View}
+use Rattle.sa_descr.specs.declared.missing.MissGroup.{MissGroup}
+use Rattle.sa_descr.specs.declared.missing.MissGroup.TheVariants.{Makes}
+use Rattle.sa_call.specs.declared.call.Op.{Op}
+use Rattle.sa_call.specs.declared.call.Op.TheVariants as op
+use Rattle.sa_plain.specs.declared.items.Items.{Items}
+use Rattle.sa_call.specs.declared.call.Operand.{Operand}
+use Rattle.sa_call.specs.declared.call.Operand.TheVariants as operand
+use Rattle.sa_call.specs.Columns.{columns_read}
+use Rattle.sa_call.specs.declared.form.Gives.TheVariants as gives
+use Rattle.sa_call.specs.declared.form.Into.TheVariants as into
+use Rattle.sa_call.specs.declared.form.Sort.{Sort}
+use Rattle.sa_call.specs.declared.form.Sort.TheVariants as sort
+use Rattle.sa_call.specs.Forms.{IsMoving, entry, descr_of, is_moved, is_operand, on_descr, with_fill}
+use Rattle.sa_call.specs.Valid.{all_are, all_values, are_of, are_values, fit_table, is_kind, is_of, kinds_fit, output_stands}
+
+-- the call is on the items of its operands
+pub record IsOnItems (o : Op) : Type 0 where
+  pub gives : (entry o).gives ≡ gives.Same
+  pub descr : descr_of o ≡ None
+  pub few : length ((entry o).needs ++ (entry o).may) ≤ 4
+  pub kind : IsMoving o ⊎ ((entry o).group ≡ Some Makes)
+
+-- the call is on a descriptor as a whole
+pub record IsWhole (o : Op) : Type 0 where
+  pub number : ℕ
+  pub descr : descr_of o ≡ Some number
+  pub needs : (entry o).needs ≡ sort.Descr ∷ []
+  pub may : (entry o).may ≡ []
+  pub into : (entry o).into ≡ into.Never
+  pub group : (entry o).group ≡ None
+  pub gives : ((entry o).gives ≡ gives.Statistics) ⊎ ((entry o).gives ≡ gives.Picture)
+
+making : (o : Op) → (entry o).gives ≡ gives.Same → descr_of o ≡ None → length ((entry o).needs ++ (entry o).may) ≤ 4 → (entry o).group ≡ Some Makes → IsOnItems o ⊎ IsWhole o
+making o given none few makes = inl (record { gives = given; descr = none; few = few; kind = inr makes })
+
+pub op-cases : (o : Op) → IsOnItems o ⊎ IsWhole o
+op-cases op.Set = inl (record { gives = refl; descr = refl; few = omega arith; kind = inl (record { need = sort.Literal; needs = refl; moves = refl; may = refl; group = refl; element = refl }) })
+op-cases op.Copy = inl (record { gives = refl; descr = refl; few = omega arith; kind = inl (record { need = sort.View; needs = refl; moves = refl; may = refl; group = refl; element = refl }) })
+op-cases op.Show = inl (record { gives = refl; descr = refl; few = omega arith; kind = inl (record { need = sort.View; needs = refl; moves = refl; may = refl; group = refl; element = refl }) })
+op-cases op.Add = making op.Add refl refl (omega arith) refl
+op-cases op.Multiply = making op.Multiply refl refl (omega arith) refl
+op-cases (op.Center fill) = making (op.Center fill) refl refl (omega arith) refl
+op-cases (op.Ljust fill) = making (op.Ljust fill) refl refl (omega arith) refl
+op-cases (op.Rjust fill) = making (op.Rjust fill) refl refl (omega arith) refl
+op-cases op.Zfill = making op.Zfill refl refl (omega arith) refl
+op-cases op.Strip = making op.Strip refl refl (omega arith) refl
+op-cases op.Lstrip = making op.Lstrip refl refl (omega arith) refl
+op-cases op.Rstrip = making op.Rstrip refl refl (omega arith) refl
+op-cases (op.Stats d) = inr (record { number = d; descr = refl; needs = refl; may = refl; into = refl; group = refl; gives = inl refl })
+op-cases (op.Image d) = inr (record { number = d; descr = refl; needs = refl; may = refl; into = refl; group = refl; gives = inr refl })
+
+whole-apart : (o : Op) → IsWhole o → (entry o).gives ≡ gives.Same → ⊥
+whole-apart o is same = elim is.gives [ inl e ↦ let x = sym e ∙ same in cc | inr e ↦ let x = sym e ∙ same in cc ]
+
+items-apart : (o : Op) (n : ℕ) → IsOnItems o → descr_of o ≡ Some n → ⊥
+items-apart o n is at = let x = sym is.descr ∙ at in cc
+
+-- by what the call gives, and by its descriptor
+pub on-items : (o : Op) → (entry o).gives ≡ gives.Same → IsOnItems o
+on-items o same = elim (op-cases o) [ inl is ↦ is | inr is ↦ absurd (whole-apart o is same) ]
+
+pub on-none : (o : Op) → descr_of o ≡ None → IsOnItems o
+on-none o none = elim (op-cases o) [ inl is ↦ is | inr is ↦ let x : None ≡ Some is.number = sym none ∙ is.descr in cc ]
+
+pub on-whole : (o : Op) (n : ℕ) → descr_of o ≡ Some n → IsWhole o
+on-whole o n at = elim (op-cases o) [ inl is ↦ absurd (items-apart o n is at) | inr is ↦ is ]
+
+-- by its group of missing values
+pub moves : (o : Op) → IsOnItems o → (entry o).group ≡ None → IsMoving o
+moves o is none = elim is.kind [ inl moving ↦ moving | inr makes ↦ let x = sym makes ∙ none in cc ]
+
+pub group-makes : (o : Op) (g : MissGroup) → IsOnItems o → (entry o).group ≡ Some g → g ≡ Makes
+group-makes o g is some = elim is.kind [ inl moving ↦ let x = sym moving.group ∙ some in cc | inr makes ↦ let x = sym makes ∙ some in cc ]
+
+pub on-statistics : (o : Op) → (entry o).gives ≡ gives.Statistics → IsWhole o
+on-statistics o given = elim (op-cases o) [ inl is ↦ let x = sym is.gives ∙ given in cc | inr is ↦ is ]
+
+pub on-picture : (o : Op) → (entry o).gives ≡ gives.Picture → IsWhole o
+on-picture o given = elim (op-cases o) [ inl is ↦ let x = sym is.gives ∙ given in cc | inr is ↦ is ]
+
+pub whole-number : (o : Op) (n : ℕ) → (is : IsWhole o) → descr_of o ≡ Some n → is.number ≡ n
+whole-number o n is at = let x = sym is.descr ∙ at in cc
+
+-- such a call has no operands and no output
+no-operands : (os : List Operand) → are_of (sort.Descr ∷ []) os ≡ true → os ≡ []
+no-operands [] are = refl
+no-operands (o ∷ os) are = absurd (false≢true are)
+
+same-or : (b : Bool) → (b || b) ≡ true → b ≡ true
+same-or true e = refl
+same-or false e = e
+
+no-output : (out : Option View) → output_stands into.Never out ≡ true → out ≡ None
+no-output None stands = refl
+no-output (Some v) stands = absurd (false≢true stands)
+
+pub whole-alone : (o : Op) (os : List Operand) (out : Option View) → IsWhole o → fit_table o os ≡ true → output_stands (entry o).into out ≡ true → (os ≡ []) × (out ≡ None)
+whole-alone o os out is sorts output =
+    let fits : (are_of (sort.Descr ∷ []) os || are_of (sort.Descr ∷ []) os) ≡ true =
+    sym (ap (λ ss. are_of ss os || are_of (ss ++ (entry o).may) os) is.needs ∙ ap (λ ms. are_of (sort.Descr ∷ []) os || are_of (sort.Descr ∷ ms) os) is.may) ∙ sorts in
+    let never : output_stands into.Never out ≡ true = sym (ap (λ i. output_stands i out) is.into) ∙ output in
+    (no-operands os (same-or (are_of (sort.Descr ∷ []) os) fits), no-output out never)
+
+-- a call that moves has one operand
+one-of : (s : Sort) (os : List Operand) → is_operand s ≡ true → are_of (s ∷ []) os ≡ true → length os ≡ 1
+one-of s os here are = go os (sym (ap (λ b. all_are is_of (cond b (s ∷ []) []) os) here) ∙ are)
+  where
+    go : (os : List Operand) → all_are is_of (s ∷ []) os ≡ true → length os ≡ 1
+    go [] h = absurd (false≢true h)
+    go (o ∷ []) h = refl
+    go (o ∷ p ∷ os) h = absurd (false≢true (sym (and_right (is_of s o) false refl) ∙ h))
+
+moved-operand : (s : Sort) → is_moved s ≡ true → is_operand s ≡ true
+moved-operand sort.View h = refl
+moved-operand sort.Literal h = refl
+moved-operand sort.Texts h = refl
+moved-operand sort.Numbers h = refl
+moved-operand sort.Fill h = absurd (false≢true h)
+moved-operand sort.Descr h = absurd (false≢true h)
+
+fits-one : (o : Op) (os : List Operand) → (is : IsMoving o) → fit_table o os ≡ true → are_of (is.need ∷ []) os ≡ true
+fits-one o os is sorts =
+    same-or (are_of (is.need ∷ []) os)
+    (sym (ap (λ ss. are_of ss os || are_of (ss ++ (entry o).may) os) is.needs ∙ ap (λ ms. are_of (is.need ∷ []) os || are_of (is.need ∷ ms) os) is.may) ∙ sorts)
+
+pub one-operand : (o : Op) (os : List Operand) → IsMoving o → fit_table o os ≡ true → length os ≡ 1
+one-operand o os is sorts = one-of is.need os (moved-operand is.need is.moves) (fits-one o os is sorts)
+
+-- and what it reads are values
+value-of : (s : Sort) (items : Items) → is_moved s ≡ true → is_of s (operand.Literal items) ≡ true → is_kind s (operand.Literal items) ≡ true → are_values items ≡ true
+value-of sort.View items moves of kind = absurd (false≢true of)
+value-of sort.Literal items moves of kind = kind
+value-of sort.Texts items moves of kind = absurd (false≢true moves)
+value-of sort.Numbers items moves of kind = absurd (false≢true moves)
+value-of sort.Fill items moves of kind = absurd (false≢true moves)
+value-of sort.Descr items moves of kind = absurd (false≢true moves)
+
+one-value : (s : Sort) (os : List Operand) (lists : List Items) → is_moved s ≡ true → all_are is_of (s ∷ []) os ≡ true → all_are is_kind (take (length os) (s ∷ [])) os ≡ true → all_values lists ≡ true → all_values (columns_read os lists) ≡ true
+one-value s [] lists moves of kind values = absurd (false≢true of)
+one-value s (operand.View v ∷ []) [] moves of kind values = refl
+one-value s (operand.View v ∷ []) (l ∷ ls) moves of kind values = let here = (and_parts (are_values l) (all_values ls) values).0 in rw here refl
+one-value s (operand.Literal items ∷ []) lists moves of kind values =
+    let is = (and_parts (is_of s (operand.Literal items)) true of).0 in
+    let kind_is = (and_parts (is_kind s (operand.Literal items)) true kind).0 in
+    let here = value-of s items moves is kind_is in
+    rw here refl
+one-value s (o ∷ p ∷ os) lists moves of kind values = absurd (false≢true (sym (and_right (is_of s o) false refl) ∙ of))
+
+pub moved-values : (o : Op) (os : List Operand) (lists : List Items) → IsMoving o → fit_table o os ≡ true → kinds_fit o os ≡ true → all_values lists ≡ true → all_values (columns_read os lists) ≡ true
+moved-values o os lists is sorts kinds values =
+    let here = moved-operand is.need is.moves in
+    let only : filter is_operand (is.need ∷ []) ≡ is.need ∷ [] = rw here refl in
+    let of : all_are is_of (is.need ∷ []) os ≡ true = ap (λ ss. all_are is_of ss os) (sym only) ∙ fits-one o os is sorts in
+    let sort_list : filter is_operand ((entry o).needs ++ (entry o).may) ≡ is.need ∷ [] =
+    ap (λ ss. filter is_operand (ss ++ (entry o).may)) is.needs ∙ ap (λ ms. filter is_operand (is.need ∷ ms)) is.may ∙ only in
+    let kind : all_are is_kind (take (length os) (is.need ∷ [])) os ≡ true = ap (λ ss. all_are is_kind (take (length os) ss) os) (sym sort_list) ∙ kinds in
+    one-value is.need os lists is.moves of kind values
+
+-- no call has more operands than the table names sorts
+few-of : (test : Sort → Operand → Bool) (ss : List Sort) (os : List Operand) → all_are test ss os ≡ true → length os ≡ length ss
+few-of test [] [] are = refl
+few-of test [] (o ∷ os) are = absurd (false≢true are)
+few-of test (s ∷ ss) [] are = absurd (false≢true are)
+few-of test (s ∷ ss) (o ∷ os) are = ap suc (few-of test ss os (and_parts (test s o) (all_are test ss os) are).1)
+
+filter-few : (ss : List Sort) → length (filter is_operand ss) ≤ length ss
+filter-few [] = omega arith
+filter-few (s ∷ ss) =
+    let rest = filter-few ss in
+    elim (cases_Bool (is_operand s)) [ inl t ↦ rw t (omega arith) | inr f ↦ rw f (omega arith) ]
+
+pub few-operands : (o : Op) (os : List Operand) → IsOnItems o → fit_table o os ≡ true → length os ≤ 4
+few-operands o os is sorts =
+    let e = entry o in
+    let most = is.few in
+    let both = length-append e.needs e.may in
+    elim (or_cases (are_of e.needs os) (are_of (e.needs ++ e.may) os) sorts) [
+      | inl short ↦ let same = few-of is_of (filter is_operand e.needs) os short in let few = filter-few e.needs in omega arith
+      | inr long ↦ let same = few-of is_of (filter is_operand (e.needs ++ e.may)) os long in let few = filter-few (e.needs ++ e.may) in omega arith
+    ]
+
+-- what a line asks for stays, whatever descriptor or fill stands in the call
+pub record IsSameLine (o p : Op) : Type 0 where
+  pub needs : (entry p).needs ≡ (entry o).needs
+  pub may : (entry p).may ≡ (entry o).may
+  pub into : (entry p).into ≡ (entry o).into
+
+same-line : (o : Op) → IsSameLine o o
+same-line o = record { needs = refl; may = refl; into = refl }
+
+pub on_descr-line : (o : Op) (n : ℕ) → IsSameLine o (on_descr o n) × (descr_of (on_descr o n) ≡ option_map (λ d. n) (descr_of o))
+on_descr-line op.Set n = (same-line op.Set, refl)
+on_descr-line op.Copy n = (same-line op.Copy, refl)
+on_descr-line op.Show n = (same-line op.Show, refl)
+on_descr-line op.Add n = (same-line op.Add, refl)
+on_descr-line op.Multiply n = (same-line op.Multiply, refl)
+on_descr-line (op.Center f) n = (same-line (op.Center f), refl)
+on_descr-line (op.Ljust f) n = (same-line (op.Ljust f), refl)
+on_descr-line (op.Rjust f) n = (same-line (op.Rjust f), refl)
+on_descr-line op.Zfill n = (same-line op.Zfill, refl)
+on_descr-line op.Strip n = (same-line op.Strip, refl)
+on_descr-line op.Lstrip n = (same-line op.Lstrip, refl)
+on_descr-line op.Rstrip n = (same-line op.Rstrip, refl)
+on_descr-line (op.Stats d) n = (record { needs = refl; may = refl; into = refl }, refl)
+on_descr-line (op.Image d) n = (record { needs = refl; may = refl; into = refl }, refl)
+
+pub with_fill-line : (o : Op) (fill : ℕ) → IsSameLine o (with_fill o fill) × (descr_of (with_fill o fill) ≡ descr_of o)
+with_fill-line op.Set fill = (same-line op.Set, refl)
+with_fill-line op.Copy fill = (same-line op.Copy, refl)
+with_fill-line op.Show fill = (same-line op.Show, refl)
+with_fill-line op.Add fill = (same-line op.Add, refl)
+with_fill-line op.Multiply fill = (same-line op.Multiply, refl)
+with_fill-line (op.Center f) fill = (record { needs = refl; may = refl; into = refl }, refl)
+with_fill-line (op.Ljust f) fill = (record { needs = refl; may = refl; into = refl }, refl)
+with_fill-line (op.Rjust f) fill = (record { needs = refl; may = refl; into = refl }, refl)
+with_fill-line op.Zfill fill = (same-line op.Zfill, refl)
+with_fill-line op.Strip fill = (same-line op.Strip, refl)
+with_fill-line op.Lstrip fill = (same-line op.Lstrip, refl)
+with_fill-line op.Rstrip fill = (same-line op.Rstrip, refl)
+with_fill-line (op.Stats d) fill = (same-line (op.Stats d), refl)
+with_fill-line (op.Image d) fill = (same-line (op.Image d), refl)

@@ -1,0 +1,35 @@
+-- The descriptors of a valid call's views are declared.
+use Rattle.std.proofs.Common.{◌≡◌, ◌<◌, ℕ, zero, suc, true, nat_lt, ◌++◌, List, [], ◌∷◌, length, map, get_or, Option, Some, None, arith}
+use Rattle.std.specs.List.{All, AllByRecursion, list_all}
+use Rattle.std.proofs.lemmas.Bool.{and_parts, ltb-true}
+use Rattle.std.proofs.lemmas.List.Elements.{All-from_recursion}
+use Rattle.sa_view.specs.Views.{fits}
+use Rattle.sa_view.specs.declared.view.View.{View}
+use Rattle.sa_call.specs.declared.call.Call.{Call}
+use Rattle.sa_call.specs.declared.call.Operand.{Operand}
+use Rattle.sa_call.specs.declared.call.Operand.TheVariants as operand
+use Rattle.sa_call.specs.declared.decls.ArrayDecl.{ArrayDecl}
+use Rattle.sa_call.specs.declared.decls.Kind.TheVariants as kind
+use Rattle.sa_call.specs.Calls.{homes_in, operand_arrays, output_arrays}
+use Rattle.sa_call.specs.Decls.{Declared, IsDeclared, home_of, length_at}
+use Rattle.sa_call.specs.Valid.{IsCall, is_operand_of, is_output_of, is_view_of}
+
+home-there : (n : ℕ) (arrays : List ArrayDecl) (k : ℕ) → AllByRecursion (λ (a : ArrayDecl). a.home < n) arrays → k < length arrays → (get_or arrays k (record { home = 0; kind = kind.Str; len = 0 })).home < n
+home-there n [] k all below = absurd (omega arith)
+home-there n (a ∷ rest) zero all below = all.0
+home-there n (a ∷ rest) (suc k) all below = home-there n rest k all.1 (omega arith)
+
+view-home : (d : Declared) (v : View) → IsDeclared d → is_view_of d v ≡ true → home_of d v.array < length d.descrs
+view-home d v declared view = home-there (length d.descrs) d.arrays v.array declared.homes (ltb-true v.array (length d.arrays) (and_parts (nat_lt v.array (length d.arrays)) (fits (length_at d.arrays v.array) v) view).0)
+
+pub homes-declared : (d : Declared) (os : List Operand) (out : Option View) → IsDeclared d → list_all (is_operand_of d) os ≡ true → is_output_of d out ≡ true
+    → AllByRecursion (λ (n : ℕ). n < length d.descrs) (map (home_of d) (operand_arrays os ++ output_arrays out))
+homes-declared d [] None declared views into = tt
+homes-declared d [] (Some v) declared views into = (view-home d v declared into, tt)
+homes-declared d (operand.Literal items ∷ os) out declared views into = homes-declared d os out declared (and_parts true (list_all (is_operand_of d) os) views).1 into
+homes-declared d (operand.View v ∷ os) out declared views into =
+    let parts = and_parts (is_view_of d v) (list_all (is_operand_of d) os) views in
+    (view-home d v declared parts.0, homes-declared d os out declared parts.1 into)
+
+pub call-homes : (d : Declared) (call : Call) → IsDeclared d → IsCall d call → All (λ (n : ℕ). n < length d.descrs) (homes_in d call)
+call-homes d call declared valid = All-from_recursion (λ (n : ℕ). n < length d.descrs) (homes_in d call) (homes-declared d call.operands call.out declared valid.views valid.into)

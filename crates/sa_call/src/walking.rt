@@ -1,0 +1,69 @@
+ghost use Rattle.std.specs.Prelude.{◌≡◌, ◌≤◌, map, is_some, Some, true};
+ghost use Rattle.sa_plain.specs.Items.{items_of};
+ghost use Rattle.sa_call.specs.Elements.{elements, gathered, gives_texts};
+ghost use Rattle.sa_call.specs.Forms.{entry};
+ghost use Rattle.sa_call.specs.Limits.{most_weight};
+ghost use Rattle.sa_call.specs.Walks.{GivesResults, halt_at};
+
+use crate::element::{Setting, Stop, result_at};
+use crate::reply::Refusal;
+use crate::row::Row;
+use sa_plain::Items;
+use sa_text::{ValueList, value_weight};
+use std::alloc::Global;
+
+/// Why a call has no results.
+#[derive(Clone, Copy, Debug, PartialEq, Eq)]
+pub(crate) enum Halt {
+    /// There is no memory for them.
+    Memory,
+    /// The call is refused, for this reason at this element.
+    Refused(Refusal, u32),
+}
+
+/// The results of a call that makes texts, one for each of so many elements, behind operands of this
+/// weight; or the first refusal.
+pub(crate) fn walk<'x>(
+    alloc: Global,
+    setting: &'x Setting,
+    columns: &'x [&'x Items],
+    weight: u64,
+    count: u32,
+) -> Result<ValueList, Halt>
+    requires makes { is_some (entry setting.now.op).group ≡ true }
+    requires texts { gives_texts setting.now.miss ≡ true }
+    requires light { weight ≤ most_weight }
+    ensures { GivesResults result (gathered setting.now.forbidden weight 0 (elements (record { miss = Some setting.now.miss; blank = setting.now.blank }) setting.now.op (map (λ c. items_of c.now) columns.now) count)) }
+{
+    let mut results = ValueList::new(alloc);
+    let mut weight = weight;
+    for at in 0..count {
+        let row = Row {
+            columns,
+            at: at as usize,
+            blank: &setting.blank,
+        };
+        let value = match result_at(alloc, setting, &row, weight) {
+            Ok(value) => value,
+            Err(stop) => return Err(stop.at(at)),
+        };
+        weight += value_weight(&value);
+        match results.push(value) {
+            Ok(()) => {}
+            Err(_) => return Err(Halt::Memory),
+        }
+    }
+    Ok(results)
+}
+
+impl Stop {
+    /// The same of a call, of which this is the element at a place.
+    fn at(self, at: u32) -> Halt
+        ensures { result ≡ halt_at self at }
+    {
+        match self {
+            Stop::Memory => Halt::Memory,
+            Stop::Refused(cause) => Halt::Refused(cause, at),
+        }
+    }
+}

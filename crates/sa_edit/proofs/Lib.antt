@@ -1,0 +1,3 @@
+mod AsciiLemmas
+mod FillLemmas
+mod StripLemmas

@@ -1,0 +1,1 @@
+pub use Rattle.sa_loop.specs.Histories
