@@ -1,13 +1,17 @@
 -- One call of a run on one thread.
-use Rattle.std.proofs.Common.{◌≡◌, ◌<◌, ℕ, zero, suc, true, false, Bool, replicate, drop, ◌⊎◌, inl, inr, nat_lt, ◌||◌, List, [], ◌∷◌, ◌++◌, length, map, sum, get_or, Option, Some, None, refl, sym, ap, ◌∙◌, subst, arith}
+use Rattle.std.proofs.Common.{◌≡◌, ◌<◌, ℕ, zero, suc, true, false, Bool, cond, replicate, drop, ◌⊎◌, inl, inr, nat_lt, ◌||◌, List, [], ◌∷◌, ◌++◌, length, map, sum, get_or, Option, Some, None, refl, sym, ap, ◌∙◌, subst, arith}
 use Rattle.std.specs.List.{AllByRecursion, range_with_len, list_any}
-use Rattle.std.proofs.lemmas.Bool.{eqb-true, ltb-true, lt-ltb}
+use Rattle.std.proofs.lemmas.Bool.{eq-eqb, eqb-true, false≢true, ltb-true, lt-ltb}
 use Rattle.std.proofs.lemmas.List.{map-append}
 use Rattle.std.proofs.lemmas.Simd.{map-map}
 use Rattle.sa_alloc.specs.Layouts.{Layout, opening_layout}
 use Rattle.sa_alloc.specs.StoreValues.{Contents, StoreValue}
 use Rattle.sa_view.specs.declared.view.View.{View}
+use Rattle.sa_text.specs.declared.value.Value.TheVariants.{Missing}
+use Rattle.sa_view.specs.Views.{places_of, read_at}
+use Rattle.sa_plain.specs.Items.{count_of, values_of}
 use Rattle.sa_plain.specs.declared.items.Items.{Items}
+use Rattle.sa_plain.specs.declared.items.Items.TheVariants.{Values, Ints}
 use Rattle.sa_call.specs.declared.call.Call.{Call}
 use Rattle.sa_call.specs.declared.decls.ArrayDecl.{ArrayDecl}
 use Rattle.sa_call.specs.declared.decls.Kind.TheVariants as kind
@@ -18,24 +22,24 @@ use Rattle.sa_call.specs.Decls.{Declared, IsDeclared, home_of}
 use Rattle.sa_call.specs.Parts.{Parts}
 use Rattle.sa_call.specs.Forms.{descr_of}
 use Rattle.sa_call.specs.Told.{index_at_home, is_named, is_number, operand_is_at, output_is_at}
-use Rattle.sa_call.specs.Valid.{IsCall, is_descr_of, is_output_of}
+use Rattle.sa_call.specs.Valid.{IsCall, are_values, is_descr_of, is_output_of}
 use Rattle.sa_call.proofs.PartLemmas.{any-declared}
 use Rattle.sa_loop.specs.declared.act.Act.{Act}
 use Rattle.sa_loop.specs.Held.{CanTake, HasShape}
 use Rattle.sa_loop.specs.declared.last_read.LastRead.{LastRead}
-use Rattle.sa_loop.specs.LastReads.{AreKnown, unknown_output}
+use Rattle.sa_loop.specs.LastReads.{AreKnown, AreThere, unknown_output}
 use Rattle.sa_loop.specs.Performs.{CanPut, IsSoundAt}
 use Rattle.sa_loop.specs.Plays.{outcomes_from, play_replies, play_world}
 use Rattle.sa_loop.specs.Runs.{layout_in, shown, world_of}
 use Rattle.sa_loop.specs.States.{array_in, opening, lengths_of}
-use Rattle.sa_loop.specs.Takes.{outcome_in}
-use Rattle.sa_loop.specs.Writes.{layout_written, world_after, writes_at, writes_told, written}
+use Rattle.sa_loop.specs.Takes.{outcome_in, parts_of}
+use Rattle.sa_loop.specs.Writes.{layout_written, puts_told, world_after, writes_at, writes_told, written}
 use Rattle.sa_loop.proofs.GatheredLemmas.{as-many}
 use Rattle.sa_loop.proofs.ResultLemmas.{results-many, results-values}
 use Rattle.sa_loop.proofs.RunLemmas.{world-more, outcomes-more, after-writes, IsAfter}
 use Rattle.sa_loop.proofs.SameLemmas.{Agree, outcome-same, layout-at, layouts-from}
 use Rattle.sa_loop.proofs.LastLemmas.{known-kept}
-use Rattle.sa_loop.proofs.WorldLemmas.{leaves-rest, view-known}
+use Rattle.sa_loop.proofs.WorldLemmas.{leaves-rest, put-there, view-known}
 
 -- what a run's stores are after the calls so far
 pub record IsRun (decls : Declared) (stores : List StoreValue) (calls : List Call) : Type 0 where
@@ -171,6 +175,14 @@ run-kept decls stores stores' calls same is = record {
   left = of-contents shown stores stores' same ∙ is.left;
 }
 
+values-are : (items : Items) → are_values items ≡ true → Values (values_of items) ≡ items
+values-are (Values vs) is = refl
+values-are (Ints ns) is = absurd (false≢true is)
+
+counts-are : (items : Items) → are_values items ≡ true → length (values_of items) ≡ count_of items
+counts-are (Values vs) is = refl
+counts-are (Ints ns) is = absurd (false≢true is)
+
 -- what is known of the arrays is known where the stores have the same contents
 pub known-same : (decls : Declared) (stores stores' : List StoreValue) (lasts : List (Option LastRead)) → map (λ (s : StoreValue). s.contents) stores' ≡ map (λ (s : StoreValue). s.contents) stores → AreKnown decls (world_of (layout_in stores)) lasts → AreKnown decls (world_of (layout_in stores')) lasts
 known-same decls stores stores' lasts same known =
@@ -186,6 +198,31 @@ known-next decls stores stores' calls call outcome lasts declared valid is known
     (λ array below other.
     ap (λ s. array_in s (index_at_home decls array)) (is.shows (home_of decls array) (home-declared decls array declared below))
     ∙ (leaves-rest decls w call valid).arrays array below other)
+
+-- what a call put into its output is there
+pub results-there : (decls : Declared) (stores stores' : List StoreValue) (calls : List Call) (call : Call) (outcome : Outcome) → IsRun decls stores calls → IsDeclared decls → IsCall decls call → outcome ≡ outcome_in decls (world_of (layout_in stores)) call
+    → IsNext decls stores stores' calls call outcome → AreThere decls (world_of (layout_in stores')) call.out outcome.results
+results-there decls stores stores' calls call outcome run declared valid came is = go call.out outcome.results refl refl
+  where
+    go : (out : Option View) (results : Option Items) → call.out ≡ out → outcome.results ≡ results → AreThere decls (world_of (layout_in stores')) out results
+    go None results at_out at_results = tt
+    go (Some v) None at_out at_results = tt
+    go (Some v) (Some items) at_out at_results =
+        let h = home_of decls v.array in
+        let known = view-known decls v (ap (is_output_of decls) (sym at_out) ∙ valid.into) in
+        let below = home-declared decls v.array declared known.0 in
+        let given : (outcome_in decls (world_of (layout_in stores)) call).results ≡ Some items = ap (λ (o : Outcome). o.results) (sym came) ∙ at_results in
+        let parts = parts_of decls (world_of (layout_in stores)) call in
+        let many = results-many decls call parts v items valid at_out given in
+        let values = values-are items (results-values decls call parts v items at_out given) in
+        let shape = shape-at decls stores calls h run below in
+        let same : shown (layout_in stores' h) ≡ written (shown (layout_in stores h)) (puts_told decls v items) =
+        is.shows h below
+        ∙ (ap (λ (o : Option Items). written (shown (layout_in stores h)) (writes_at (writes_told decls call.out o) h)) given
+        ∙ (ap (λ (o : Option View). written (shown (layout_in stores h)) (writes_at (writes_told decls o (Some items)) h)) at_out
+        ∙ ap (λ (b : Bool). written (shown (layout_in stores h)) (cond b (puts_told decls v items) [])) (eq-eqb h h refl))) in
+        sym (ap (λ s. read_at Missing (array_in s (index_at_home decls v.array)) (places_of v)) (same ∙ ap (λ (i : Items). written (shown (layout_in stores h)) (puts_told decls v i)) (sym values))
+        ∙ put-there decls v (layout_in stores h) (values_of items) shape known.0 known.1 (counts-are items (results-values decls call parts v items at_out given) ∙ many))
 
 -- acts under the same declarations with one more
 pub alike-more : (decls : Declared) (acts : List Act) (act : Act) → map (λ (a : Act). a.decls.now) acts ≡ replicate (length acts) decls → act.decls.now ≡ decls → map (λ (a : Act). a.decls.now) (acts ++ act ∷ []) ≡ replicate (length (acts ++ act ∷ [])) decls

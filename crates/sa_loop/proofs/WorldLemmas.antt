@@ -1,5 +1,5 @@
 -- Worlds that calls leave: each descriptor's state is the one that its layout shows.
-use Rattle.std.proofs.Common.{◌≡◌, ◌<◌, ◌≤◌, ◌+◌, ◌≢◌, ℕ, zero, suc, true, false, inl, inr, nat_lt, List, [], ◌∷◌, length, map, sum, replicate, get_or, get_or-set_other, Option, Some, None, refl, sym, ap, ◌∙◌, subst, arith}
+use Rattle.std.proofs.Common.{◌≡◌, ◌<◌, ◌≤◌, ◌+◌, ◌≢◌, ℕ, zero, suc, true, false, inl, inr, nat_lt, List, [], ◌∷◌, length, map, sum, replicate, drop, set, length-set, get_or, get_or-set_same, get_or-set_other, Option, Some, None, refl, sym, ap, ◌∙◌, subst, arith}
 use Rattle.std.specs.List.{AllByRecursion, sum_by, zip}
 use Rattle.std.proofs.lemmas.Bool.{and_parts, cases_lt, eq-eqb, ltb-true}
 use Rattle.std.proofs.lemmas.Bool.Decides.{eqb_tells}
@@ -8,16 +8,19 @@ use Rattle.std.proofs.lemmas.List.Sums.{sum-map}
 use Rattle.std.proofs.lemmas.Simd.{map-map}
 use Rattle.sa_base.specs.Items.{Item}
 use Rattle.sa_base.specs.Deeds.{Put}
-use Rattle.sa_text.specs.Values.{value_weight, weight_of}
+use Rattle.sa_text.specs.Values.{item_of, value_of, value_weight, weight_of}
+use Rattle.sa_text.specs.declared.value.Value.{Value}
 use Rattle.sa_text.specs.declared.value.Value.TheVariants.{Missing, Of}
 use Rattle.sa_alloc.specs.Layouts as layouts
-use Rattle.sa_alloc.specs.Layouts.{Layout, opening_layout, first_entry, value_at, value_in}
+use Rattle.sa_alloc.specs.Layouts.{Layout, opening_layout, first_entry, value_at, value_in, values_of}
 use Rattle.sa_alloc.proofs.LayoutLemmas.{opening-sound}
 use Rattle.sa_alloc.proofs.PlanLemmas.{places-few}
 use Rattle.sa_plain.specs.Items.{items_of}
 use Rattle.sa_plain.specs.declared.items.Items.{Items}
+use Rattle.sa_plain.specs.declared.items.Items.TheVariants.{Values}
 use Rattle.sa_view.specs.declared.view.View.{View}
-use Rattle.sa_view.specs.Views.{fits, places_of}
+use Rattle.sa_view.specs.Views.{fits, places_of, put_at, read_at}
+use Rattle.sa_view.proofs.PutLemmas.{put-is_read}
 use Rattle.sa_view.proofs.ViewLemmas.{are-places}
 use Rattle.sa_call.specs.declared.call.Call.{Call}
 use Rattle.sa_call.specs.Decls.{Declared, IsDeclared, home_of, length_at}
@@ -186,6 +189,40 @@ leaves-arrays decls s (Some v) (Some results) array valid below apart =
           rw w.0 (zip-leaves decls v (index_at_home decls array) (places_of v) (items_of results) s (slots-differ decls array v.array below (view-known decls v valid).0 other (sym w.1)))
       | inr w ↦ rw w.0 refl
     ]
+
+pieces-many : {A : Type 0} (ns : List ℕ) (xs : List A) → length (pieces ns xs) ≡ length ns
+pieces-many [] xs = refl
+pieces-many (n ∷ ns) xs = ap suc (pieces-many ns (drop n xs))
+
+-- what is put at the places of a view is what its array has there
+pub written-put : (decls : Declared) (v : View) (ps : List ℕ) (items : List Item) (s : State) → index_at_home decls v.array < length s.strings
+    → array_in (written s (map (λ p. Put p.0 p.1) (zip (map (place_in decls v) ps) items))) (index_at_home decls v.array) ≡ put_at (array_in s (index_at_home decls v.array)) ps (map value_of items)
+written-put decls v [] items s within = refl
+written-put decls v (p ∷ ps) [] s within = refl
+written-put decls v (p ∷ ps) (i ∷ items) s within =
+    let slot = index_at_home decls v.array in
+    let next = put_item s (place_in decls v p) i in
+    let long : slot < length next.strings = omega (arith, length-set s.strings slot (set (array_in s slot) p (value_of i))) in
+    written-put decls v ps items next long
+    ∙ ap (λ (xs : List Value). put_at xs ps (map value_of items)) (get_or-set_same s.strings slot (set (array_in s slot) p (value_of i)) [] within)
+
+values-back : (vs : List Value) → map value_of (map item_of vs) ≡ vs
+values-back [] = refl
+values-back (Missing ∷ vs) = ap (λ ws. Missing ∷ ws) (values-back vs)
+values-back (Of text ∷ vs) = ap (λ ws. Of text ∷ ws) (values-back vs)
+
+pub put-there : (decls : Declared) (v : View) (l : Layout) (vs : List Value) → HasShape decls (home_of decls v.array) l → v.array < length decls.arrays → fits (length_at decls.arrays v.array) v ≡ true → length vs ≡ v.count
+    → read_at Missing (array_in (written (shown l) (puts_told decls v (Values vs))) (index_at_home decls v.array)) (places_of v) ≡ vs
+put-there decls v l vs is below fit many =
+    let slot = index_at_home decls v.array in
+    let are = are-places v (length_at decls.arrays v.array) fit in
+    let inside : slot < length l.lengths = subst (λ ns. slot < length ns) (sym is.lengths) (slot-within decls v.array below) in
+    let count : get_or l.lengths slot 0 ≡ length_at decls.arrays v.array = ap (λ ns. get_or ns slot 0) is.lengths ∙ slot-length decls v.array below in
+    let strings : slot < length (strings_in l) = omega (arith, pieces-many l.lengths (values_of l)) in
+    let long : length (array_in (shown l) slot) ≡ length_at decls.arrays v.array = length-strings l slot inside is.states ∙ count in
+    let within : AllByRecursion (λ (p : ℕ). p < length (array_in (shown l) slot)) (places_of v) = subst (λ (n : ℕ). AllByRecursion (λ (p : ℕ). p < n) (places_of v)) (sym long) are.within in
+    ap (λ (xs : List Value). read_at Missing xs (places_of v)) (written-put decls v (places_of v) (map item_of vs) (shown l) strings ∙ ap (put_at (array_in (shown l) slot) (places_of v)) (values-back vs))
+    ∙ (put-is_read Missing (array_in (shown l) slot) (places_of v) vs (record { count = are.count ∙ sym many; distinct = are.distinct; within = within })).read
 
 pub leaves-rest : CallsLeaveRest
 leaves-rest decls w call valid = record {

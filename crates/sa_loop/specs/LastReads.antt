@@ -3,6 +3,8 @@ use Rattle.std.specs.Prelude.{◌≡◌, ◌<◌, ℕ, List, length, nat_lt, sli
 use Rattle.sa_text.specs.declared.value.Value.TheVariants.{Missing}
 use Rattle.sa_view.specs.Views.{places_of, read_at}
 use Rattle.sa_view.specs.declared.view.View.{View}
+use Rattle.sa_plain.specs.Items.{values_of}
+use Rattle.sa_plain.specs.declared.items.Items.{Items}
 use Rattle.sa_call.specs.Decls.{Declared}
 use Rattle.sa_loop.specs.declared.last_read.LastRead.{LastRead}
 use Rattle.sa_loop.specs.States.{World, values_at}
@@ -26,3 +28,9 @@ placed lasts array last = if nat_lt array (length lasts) then slice_set lasts ar
 abbrev pub unknown_output : Option View → List (Option LastRead) → List (Option LastRead)
 unknown_output None lasts = lasts
 unknown_output (Some out) lasts = placed lasts out.array None
+
+-- the results of a call are the items of its output, where it has some
+abbrev pub AreThere : Declared → World → Option View → Option Items → Type 0
+AreThere decls w None results = Unit {0}
+AreThere decls w (Some out) None = Unit {0}
+AreThere decls w (Some out) (Some results) = values_of results ≡ read_at Missing (values_at decls w out.array) (places_of out)

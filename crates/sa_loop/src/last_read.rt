@@ -4,18 +4,17 @@ ghost use Rattle.sa_loop.specs.LastReads.{placed};
 use sa_call::View;
 use sa_text::ValueList;
 
-/// A view of an array, and the items that were read there.
+/// A view of an array, and the items that were read or put there.
 #[derive(Debug, Drop)]
 pub struct LastRead {
     pub view: View,
     pub list: ValueList,
 }
 
-/// What was last read of each array, by its number; none where nothing was read since the array was
-/// written.
+/// What was last read or put of each array, by its number; none where nothing is known.
 pub type LastReads = Vec<Option<LastRead>>;
 
-/// The items of a view, where it is the one that was last read of its array.
+/// The items of a view, where it is the one that was last read or written of its array.
 pub(crate) fn last_list<'a>(lasts: &'a [Option<LastRead>], view: &View) -> Option<&'a ValueList>
     ensures { IfSome result (λ list. slice_index_or lasts.now view.now.array None ≡ Some (record { view = view.now; list = list.now })) }
 {

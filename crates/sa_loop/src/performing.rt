@@ -1,14 +1,17 @@
-ghost use Rattle.std.specs.Prelude.{◌≡◌, ◌<◌, [], ℕ, length, map, replicate, true, nat_lt, None, IfOk, OnOk, OnErr};
+ghost use Rattle.std.specs.Prelude.{◌≡◌, ◌<◌, [], ℕ, List, length, map, replicate, true, nat_lt, None, IfOk, OnOk, OnErr};
 ghost use Rattle.sa_alloc.specs.StoreValues.{StoreValue};
-ghost use Rattle.sa_call.specs.Decls.{IsDeclared};
+ghost use Rattle.sa_call.specs.Decls.{Declared, IsDeclared};
 ghost use Rattle.sa_call.specs.Valid.{IsCall};
-ghost use Rattle.sa_loop.specs.LastReads.{unknown_output};
+ghost use Rattle.sa_call.specs.Decides.{decide};
+ghost use Rattle.sa_call.specs.Told.{parts_told, AreOperands, AreWeights};
+ghost use Rattle.sa_loop.specs.LastReads.{unknown_output, AreKnown, AreThere};
+ghost use Rattle.sa_loop.specs.States.{World};
 ghost use Rattle.sa_loop.specs.Performs.{IsOneMore, CanPut, IsSoundAt};
 ghost use Rattle.sa_loop.specs.Runs.{shown, world_of, layout_in};
 ghost use Rattle.sa_loop.specs.Writes.{world_after, writes_told, writes_at, layout_written};
 
 use crate::act::Act;
-use crate::last_read::{LastReads, place};
+use crate::last_read::{LastRead, LastReads, place};
 use crate::listed::Listed;
 use crate::opening::opening_stores;
 use crate::rooms::Rooms;
@@ -16,7 +19,7 @@ use crate::taking::take;
 use crate::writing::put_results;
 use sa_alloc::Store;
 use sa_base::Memory;
-use sa_call::{Call, Decls, Items, View, evaluate, home_of};
+use sa_call::{Call, Decls, Items, Operands, Outcome, View, evaluate, home_of};
 use std::alloc::Global;
 
 impl Rooms for Vec<Store> {
@@ -68,13 +71,27 @@ impl<'s> Listed<'s> {
         let _declared = own.arrays();
         self.acts.reserve(1)?;
         let (read, weights) = take(alloc, own, &self.stores, call, &mut self.lasts)?;
-        let outcome = evaluate(alloc, own, call, &read)?;
+        let outcome = evaluated(alloc, own, call, &read)?;
         put_outcome(alloc, own, &mut self.stores, &call.out, &outcome.results)?;
         forget_output(&mut self.lasts, &call.out);
+        remember_output(alloc, &mut self.lasts, &call.out, &outcome.results);
         self.acts
             .push_reserved(Act::new(own, task, number, call, read, weights, outcome));
         Ok(())
     }
+}
+
+/// What comes of a call, by what was read for it, with results that copies share.
+fn evaluated(alloc: Global, decls: &Decls, call: &Call, read: &Operands) -> Result<Outcome, Memory>
+    requires call { IsCall decls.now call.now }
+    requires read { AreOperands call.now read.now }
+    ensures { IfOk result (λ o. (weights : List ℕ) → AreWeights decls.now call.now read.now weights → o ≡ decide decls.now call.now (parts_told decls.now call.now read.now weights)) }
+{
+    let mut outcome = evaluate(alloc, decls, call, read)?;
+    if let Some(results) = &mut outcome.results {
+        results.share(alloc)?;
+    }
+    Ok(outcome)
 }
 
 /// Puts a call's results, where it has some, into the store of its output's home.
@@ -117,5 +134,21 @@ fn forget_output(lasts: &mut LastReads, out: &Option<View>)
 {
     if let Some(out) = out {
         place(lasts, out.array, None);
+    }
+}
+
+/// Notes that the array of an output has these results at its places.
+fn remember_output(
+    alloc: Global,
+    lasts: &mut LastReads,
+    out: &Option<View>,
+    results: &Option<Items>,
+)
+    ensures { (decls : Declared) → (w : World) → AreKnown decls w lasts.old.items → AreThere decls w out.now results.now → AreKnown decls w lasts.new.items }
+{
+    if let (Some(out), Some(Items::Values(results))) = (out, results) {
+        if let Ok(list) = results.copy(alloc) {
+            place(lasts, out.array, Some(LastRead { view: *out, list }));
+        }
     }
 }

@@ -23,7 +23,7 @@ use std::alloc::Global;
 
 /// Reads what a call takes of its descriptors. All is weighed first, by the slots alone; what weighs too
 /// much is not read, and the answer then has its weights, a number for each of the descriptors. A view
-/// that is the last that was read of its array is not read again: its list is shared.
+/// that is the last that was read or written of its array is not read again: its list is shared.
 pub fn take<R: Rooms>(
     alloc: Global,
     decls: &Decls,

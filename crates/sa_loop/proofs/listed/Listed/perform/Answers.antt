@@ -10,7 +10,7 @@ use Rattle.sa_loop.specs.declared.listed.Listed.{Listed}
 use Rattle.sa_loop.specs.LastReads.{AreKnown}
 use Rattle.sa_loop.specs.Plays.{play_replies}
 use Rattle.sa_loop.specs.Runs.{layout_in, world_of}
-use Rattle.sa_loop.proofs.PerformLemmas.{IsRun, can-take, can-put, next, alike-more, known-next, known-same, replies-more, run-kept}
+use Rattle.sa_loop.proofs.PerformLemmas.{IsRun, can-take, can-put, next, alike-more, known-next, known-same, replies-more, results-there, run-kept}
 use Rattle.sa_loop.proofs.listed.Listed.perform.Goals as goal
 
 abbrev calls_of : List Act → List Call
@@ -74,12 +74,14 @@ invariant_of-self-2 c =
     let called : calls_of c.push_reserved.new.self.items ≡ calls_of acts ++ call ∷ [] = ap calls_of more ∙ (map-append (λ (a : Act). a.body.now) acts (act ∷ []) ∙ ap (λ b. calls_of acts ++ b ∷ []) c.new.ensures.3) in
     let valid = subst (λ d. IsCall d call) c.requires.decls c.requires.call in
     let known = known-next decls stores c.put_outcome.new.stores.items (calls_of acts) call c.in_ok-outcome.outcome c.take.new.lasts.items c.arrays-declared.ensures.declared valid is c.take.ensures.known in
+    let came = c.in_ok-outcome.ensures c.in_ok-read.weights c.in_ok-read.ensures.taken.are_weights ∙ ap (decide decls call) c.in_ok-read.ensures.taken.parts in
+    let there = results-there decls stores c.put_outcome.new.stores.items (calls_of acts) call c.in_ok-outcome.outcome (run_of c.args.self.now) c.arrays-declared.ensures.declared valid came is in
     let run = subst (λ cs. IsRun decls c.put_outcome.new.stores.items cs) (sym called) is.run in
     record {
       alike = subst (λ (all : List Act). map (λ (a : Act). a.decls.now) all ≡ replicate (length all) decls) (sym more) (alike-more decls acts act c.args.self.now.alike c.new.ensures.0);
       replied = ap (map (λ (a : Act). a.outcome.reply)) more ∙ (map-append (λ (a : Act). a.outcome.reply) acts (act ∷ []) ∙ (ap (λ (o : Outcome). map (λ (a : Act). a.outcome.reply) acts ++ o.reply ∷ []) c.new.ensures.4 ∙ (replies-more decls (calls_of acts) (map (λ (a : Act). a.outcome.reply) acts) call c.in_ok-outcome.outcome c.args.self.now.replied is.came ∙ ap (play_replies decls) (sym called))));
       shaped = run.shaped;
       sized = run.sized;
-      known = subst (AreKnown decls (world_of (layout_in c.put_outcome.new.stores.items))) (sym c.forget_output.ensures) known;
+      known = c.remember_output.ensures decls (world_of (layout_in c.put_outcome.new.stores.items)) (subst (AreKnown decls (world_of (layout_in c.put_outcome.new.stores.items))) (sym c.forget_output.ensures) known) there;
       left = run.left;
     }
