@@ -100,9 +100,16 @@ AreOperands call (operands.Stats stats) = (entry call.op).gives ≡ gives.Statis
 AreOperands call (operands.Picture p) = ((entry call.op).gives ≡ gives.Picture) × (length p.entries ≤ most_entries)
 AreOperands call (operands.Big weight) = most_weight < weight
 
--- What was read weighs no more than a call may, or its weights tell that it weighs more: a number for each descriptor, and with the literals together the weight.
+-- these are the weights of what was not read, since it weighs too much: a number for each descriptor, and with the literals together the weight
 abbrev pub AreWeights : Declared → Call → Operands → List ℕ → Type 0
-AreWeights decls call (operands.Items lists) weights = weight_read call (parts_told decls call (operands.Items lists) weights) ≤ most_weight
-AreWeights decls call (operands.Stats stats) weights = weight_read call (parts_told decls call (operands.Stats stats) weights) ≤ most_weight
-AreWeights decls call (operands.Picture p) weights = weight_read call (parts_told decls call (operands.Picture p) weights) ≤ most_weight
+AreWeights decls call (operands.Items lists) weights = Unit {0}
+AreWeights decls call (operands.Stats stats) weights = Unit {0}
+AreWeights decls call (operands.Picture p) weights = Unit {0}
 AreWeights decls call (operands.Big weight) weights = (length weights ≡ length (homes_of decls call)) × (sum weights + sum_by literal_weight call.operands ≡ weight)
+
+-- what was read weighs no more than a call may
+abbrev pub AreLight : Declared → Call → Operands → List ℕ → Type 0
+AreLight decls call (operands.Items lists) weights = weight_read call (parts_told decls call (operands.Items lists) weights) ≤ most_weight
+AreLight decls call (operands.Stats stats) weights = weight_read call (parts_told decls call (operands.Stats stats) weights) ≤ most_weight
+AreLight decls call (operands.Picture p) weights = weight_read call (parts_told decls call (operands.Picture p) weights) ≤ most_weight
+AreLight decls call (operands.Big weight) weights = Unit {0}

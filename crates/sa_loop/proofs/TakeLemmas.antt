@@ -164,6 +164,7 @@ taken-heavy decls layouts call weights total other are sums heavy =
     record {
       are_operands = heavy;
       are_weights = (ap length are ∙ length-map homes (λ d. weight decls (w d) call d), sums);
+      are_light = tt;
       parts =
           ap (weighed_parts decls call homes) are
           ∙ weighed-same decls w call homes other
@@ -184,7 +185,8 @@ taken-light decls layouts call weights total lists none same are sums light read
     ∙ ap (λ (b : Bool). each (λ d. part decls (w d) call b d) homes) (sym under) in
     record {
       are_operands = (same, ap (map count_of) read ∙ counts-read decls w call.operands, ap all_values read ∙ values-read decls w call.operands);
-      are_weights = told-light decls w call (parts_told decls call (operands.Items lists) none) parts (omega arith);
+      are_weights = tt;
+      are_light = told-light decls w call (parts_told decls call (operands.Items lists) none) parts (omega arith);
       parts = parts;
     }
 
@@ -261,7 +263,8 @@ taken-whole decls held layouts call number l (operands.Stats stats) weights can 
     ∙ sym (ap (λ ds. each (λ d. part decls (w d) call heavy d) ds) one.0) in
     record {
       are_operands = whole.0;
-      are_weights = told-light decls w call (parts_told decls call (operands.Stats stats) weights) parts (omega arith);
+      are_weights = tt;
+      are_light = told-light decls w call (parts_told decls call (operands.Stats stats) weights) parts (omega arith);
       parts = parts;
     }
 taken-whole decls held layouts call number l (operands.Picture p) weights can is at whole =
@@ -283,7 +286,8 @@ taken-whole decls held layouts call number l (operands.Picture p) weights can is
     ∙ ap (λ (b : Bool). each (λ d. part decls (w d) call b d) (homes_of decls call)) (sym under) in
     record {
       are_operands = (whole.0, (let same = ap length entries in omega arith));
-      are_weights = told-light decls w call (parts_told decls call (operands.Picture p) weights) parts (omega arith);
+      are_weights = tt;
+      are_light = told-light decls w call (parts_told decls call (operands.Picture p) weights) parts (omega arith);
       parts = parts;
     }
 taken-whole decls held layouts call number l (operands.Big total) weights can is at whole =

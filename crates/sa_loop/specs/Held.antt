@@ -16,7 +16,7 @@ use Rattle.sa_call.specs.declared.reply.Reply.{Reply}
 use Rattle.sa_call.specs.Decls.{Declared, IsDeclared, home_of, length_at}
 use Rattle.sa_call.specs.Limits.{most_items, most_weight}
 use Rattle.sa_call.specs.Parts.{picture_weight}
-use Rattle.sa_call.specs.Told.{is_named, parts_told, AreOperands, AreWeights}
+use Rattle.sa_call.specs.Told.{is_named, parts_told, AreLight, AreOperands, AreWeights}
 use Rattle.sa_call.specs.Valid.{IsCall}
 use Rattle.sa_loop.specs.Plays.{play_replies, play_world}
 use Rattle.sa_loop.specs.Runs.{shown, world_of}
@@ -67,6 +67,7 @@ pub record AreShort (operands : List Operand) : Type 0 where
 pub record IsTaken (decls : Declared) (layouts : ℕ → Layout) (call : Call) (read : Operands) (weights : List ℕ) : Type 0 where
   pub are_operands : AreOperands call read
   pub are_weights : AreWeights decls call read weights
+  pub are_light : AreLight decls call read weights
   pub parts : parts_told decls call read weights ≡ parts_of decls (world_of layouts) call
 
 -- what was read of a whole descriptor: its statistics, its picture, or the weight of a picture that weighs too much

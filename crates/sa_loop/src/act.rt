@@ -1,6 +1,6 @@
 ghost use Rattle.std.specs.Prelude.{◌≡◌};
 ghost use Rattle.sa_call.specs.Decides.{decide};
-ghost use Rattle.sa_call.specs.Told.{parts_told, AreOperands, AreWeights};
+ghost use Rattle.sa_call.specs.Told.{parts_told, AreLight, AreOperands, AreWeights};
 
 use sa_base::Sequence;
 use sa_call::{Call, Decls, Operands, Outcome};
@@ -23,6 +23,7 @@ pub struct Act<'s> {
     outcome: Outcome,
     ghost are_operands: { ∥ AreOperands body.now read ∥₁ },
     ghost are_weights: { ∥ AreWeights decls.now body.now read weights ∥₁ },
+    ghost are_light: { ∥ AreLight decls.now body.now read weights ∥₁ },
     ghost decided: { outcome ≡ decide decls.now body.now (parts_told decls.now body.now read weights) },
 }
 
@@ -40,6 +41,7 @@ impl<'s> Act<'s> {
     ) -> Act<'s>
         requires operands { AreOperands body.now read }
         requires weights { AreWeights decls.now body.now read weights }
+        requires light { AreLight decls.now body.now read weights }
         requires decided { outcome ≡ decide decls.now body.now (parts_told decls.now body.now read weights) }
         ensures { (result.decls.now ≡ decls.now) × (result.task ≡ task) × (result.number ≡ number) × (result.body.now ≡ body.now) × (result.outcome ≡ outcome) }
     {
