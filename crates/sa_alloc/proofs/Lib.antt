@@ -8,3 +8,4 @@ pub mod ReadLemmas
 pub mod OpeningLemmas
 pub mod PlanLemmas
 pub mod CopyLemmas
+pub mod TidyLemmas

@@ -9,4 +9,5 @@ pub mod Needs
 pub mod PlanValues
 pub mod StoreValues
 pub mod Stores
+pub mod Tidies
 pub mod Transitions

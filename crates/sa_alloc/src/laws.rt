@@ -1,4 +1,4 @@
-ghost use Rattle.sa_alloc.specs.Laws.{PutsKeepSound, PutsKeepShape, PutsSetOneValue};
+ghost use Rattle.sa_alloc.specs.Laws.{PutsKeepSound, PutsKeepShape, PutsSetOneValue, TidiesKeepValues};
 
 /// The opening layout names each live extent by exactly one entry, and each put keeps it so: its
 /// clause is the law.
@@ -14,4 +14,9 @@ pub fn puts_keep_shape()
 /// A put changes the value of its entry, and no other: its clause is the law.
 pub fn puts_set_one_value()
     ensures { PutsSetOneValue }
+{}
+
+/// A tidy changes no value, and no length of an array: its clause is the law.
+pub fn tidies_keep_values()
+    ensures { TidiesKeepValues }
 {}

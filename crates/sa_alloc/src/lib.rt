@@ -19,7 +19,7 @@ mod store;
 mod transition;
 mod values;
 
-pub use laws::{puts_keep_shape, puts_keep_sound, puts_set_one_value};
+pub use laws::{puts_keep_shape, puts_keep_sound, puts_set_one_value, tidies_keep_values};
 pub use plan::Plan;
 pub use seen::Seen;
 pub use store::Store;

@@ -1,6 +1,6 @@
 /// Is told of each call once, while the call holds its locks. It returns and holds nothing; a test
 /// uses one to see which calls are inside at the same time.
-pub trait Gate: Sync {
+pub trait Gate {
     fn inside(&self, task: u32, call: u32);
 }
 

@@ -3,7 +3,7 @@ use Rattle.std.proofs.Common.{◌≡◌, ℕ, ◌+◌, ◌*◌, ◌<◌, eqb, na
 use Rattle.std.specs.List.{list_any, filter, count_by, sum, sum_by, range_with_len}
 use Rattle.std.proofs.lemmas.Bool.{or_left, eq-eqb, lt-ltb, ltb-true}
 use Rattle.std.proofs.lemmas.List.Sums.{sum_by-cons, length-filter}
-use Rattle.sa_base.specs.Deeds.{Place, Part, Read, Counted, Pictured}
+use Rattle.sa_base.specs.Deeds.{Place, Part, Read, Counted, Pictured, part_at, picture_weight}
 use Rattle.sa_base.specs.declared.stats.Stats.{Stats}
 use Rattle.sa_plain.specs.Items.{count_of}
 use Rattle.sa_plain.specs.declared.items.Items.{Items}
@@ -21,7 +21,7 @@ use Rattle.sa_call.specs.Columns.{columns_read, columns_weight, outcome_read}
 use Rattle.sa_call.specs.Decides.{decide, decided, done, outcome_on, refused_with, told_by}
 use Rattle.sa_call.specs.Decls.{Declared, IsDeclared}
 use Rattle.sa_call.specs.Forms.{entry, descr_of}
-use Rattle.sa_call.specs.Parts.{Parts, part_at, part_weight, items_read, literal_weight, weight_read, columns_of, picture_weight}
+use Rattle.sa_call.specs.Parts.{Parts, part_weight, items_read, literal_weight, weight_read, columns_of}
 use Rattle.sa_call.specs.Told.{homes_of, is_named, is_number, items_told, operand_is_at, output_is_at, parts_told, places_told, view_counts, weighed_by, weighed_parts}
 use Rattle.sa_call.specs.Valid.{IsCall, is_descr_of}
 use Rattle.sa_call.proofs.OpLemmas.{IsWhole, on-items, on-picture, on-statistics, whole-alone}
@@ -120,12 +120,12 @@ pub picture-decide : (decls : Declared) (call : Call) (p : Picture) (weights : L
 picture-decide decls call p weights given valid = sym (whole-part decls call (Pictured p.entries p.arena) (on-picture call.op given) valid)
 
 -- the weights of what is too heavy
-weight-by : (given : Gives) (places : List Place) (weight : ℕ) → part_weight (weighed_by given places weight) ≡ weight
+pub weight-by : (given : Gives) (places : List Place) (weight : ℕ) → part_weight (weighed_by given places weight) ≡ weight
 weight-by gives.Same places weight = refl
 weight-by gives.Statistics places weight = refl
 weight-by gives.Picture places weight = refl
 
-weight-weighed : (decls : Declared) (call : Call) (ds weights : List ℕ) → length weights ≡ length ds → sum_by (λ (p : ℕ × Part). part_weight p.1) (weighed_parts decls call ds weights) ≡ sum weights
+pub weight-weighed : (decls : Declared) (call : Call) (ds weights : List ℕ) → length weights ≡ length ds → sum_by (λ (p : ℕ × Part). part_weight p.1) (weighed_parts decls call ds weights) ≡ sum weights
 weight-weighed decls call [] [] long = refl
 weight-weighed decls call [] (w ∷ ws) long = absurd (omega arith)
 weight-weighed decls call (d ∷ ds) [] long = absurd (omega arith)

@@ -19,7 +19,7 @@ use Rattle.sa_call.specs.Decides.{forbids, items_from, outcome_of, outcome_on, r
 use Rattle.sa_call.specs.Decls.{Declared}
 use Rattle.sa_call.specs.Elements.{elements, and_later, gathered, with_front}
 use Rattle.sa_call.specs.Forms.{IsMoving, Row, entry, item}
-use Rattle.sa_call.specs.Parts.{item_weight}
+use Rattle.sa_plain.specs.Items.{item_weight}
 use Rattle.sa_call.specs.Refusals.{at_place, refused}
 use Rattle.sa_call.proofs.CountLemmas.{elements-many}
 

@@ -6,14 +6,14 @@ use Rattle.std.proofs.lemmas.List.{length-map, take_at, drop_at}
 use Rattle.std.proofs.lemmas.List.FromFn.{length-map-range_with_len}
 use Rattle.std.proofs.lemmas.List.Sums.{sum_by-cons, sum_by-append}
 use Rattle.std.proofs.lemmas.Slice.Zip.{length-zip, seconds-zip}
-use Rattle.sa_base.specs.Items.{Item, IntegerItem}
-use Rattle.sa_base.specs.Deeds.{Place, Part}
+use Rattle.sa_base.specs.Items.{Item, IntegerItem, FlagItem, BytesItem, UnitsItem}
+use Rattle.sa_base.specs.Deeds.{Place, Part, part_at}
 use Rattle.sa_text.specs.Values.{item_of, value_weight}
 use Rattle.sa_text.specs.declared.value.Value.{Value}
 use Rattle.sa_text.specs.declared.value.Value.TheVariants.{Missing, Of}
-use Rattle.sa_plain.specs.Items.{count_of, items_of, items_weight}
+use Rattle.sa_plain.specs.Items.{count_of, items_of, items_weight, item_weight}
 use Rattle.sa_plain.specs.declared.items.Items.{Items}
-use Rattle.sa_plain.specs.declared.items.Items.TheVariants.{Values, Ints}
+use Rattle.sa_plain.specs.declared.items.Items.TheVariants.{Values, Ints, Flags, Bytes, Units}
 use Rattle.sa_view.specs.Views.{places_of, place_at, fits}
 use Rattle.sa_view.specs.declared.view.View.{View}
 use Rattle.sa_call.specs.declared.call.Operand.{Operand}
@@ -21,7 +21,7 @@ use Rattle.sa_call.specs.declared.call.Operand.TheVariants as operand
 use Rattle.sa_call.specs.declared.decls.ArrayDecl.{ArrayDecl}
 use Rattle.sa_call.specs.Columns.{columns_read}
 use Rattle.sa_call.specs.Decls.{Declared, IsDeclared, array_at, home_of, length_at}
-use Rattle.sa_call.specs.Parts.{part_at, item_weight, literal_weight, behind, columns_of}
+use Rattle.sa_call.specs.Parts.{literal_weight, behind, columns_of}
 use Rattle.sa_call.specs.Told.{items_told, places_in, place_in, operand_is_at, view_counts}
 use Rattle.sa_call.specs.Valid.{is_operand_of, is_view_of}
 
@@ -119,17 +119,20 @@ part-there f (k ∷ ds) d once = go (eqb k d) refl (sum_by-cons (λ y. cond (eqb
         rw e (rest (omega arith))
 
 -- the items of a view beside their places
-length-places : (decls : Declared) (v : View) → length (places_in decls v) ≡ v.count
+pub length-places : (decls : Declared) (v : View) → length (places_in decls v) ≡ v.count
 length-places decls v = length-map (places_of v) (place_in decls v) ∙ length-map-range_with_len (place_at v) 0 v.count
 
-length-items : (items : Items) → length (items_of items) ≡ count_of items
+pub length-items : (items : Items) → length (items_of items) ≡ count_of items
 length-items (Values vs) = length-map vs item_of
 length-items (Ints ns) = length-map ns (λ n. IntegerItem n)
+length-items (Flags bs) = length-map bs (λ b. FlagItem b)
+length-items (Bytes rows) = length-map rows (λ bytes. BytesItem bytes)
+length-items (Units rows) = length-map rows (λ units. UnitsItem units)
 
 abbrev beside : Declared → View → Items → List (Place × Item)
 beside decls v items = zip (places_in decls v) (items_of items)
 
-length-beside : (decls : Declared) (v : View) (items : Items) → count_of items ≡ v.count → length (beside decls v items) ≡ v.count
+pub length-beside : (decls : Declared) (v : View) (items : Items) → count_of items ≡ v.count → length (beside decls v items) ≡ v.count
 length-beside decls v items same =
     let both = length-zip (places_in decls v) (items_of items) in
     let places = length-places decls v in
@@ -146,13 +149,16 @@ weight-item : (v : Value) → item_weight (item_of v) ≡ value_weight v
 weight-item Missing = refl
 weight-item (Of text) = refl
 
-weight-ints : (ns : List ℤ) → sum_by item_weight (map (λ n. IntegerItem n) ns) ≡ 16 * length ns
-weight-ints [] = omega arith
-weight-ints (n ∷ ns) = let cons = sum_by-cons item_weight (IntegerItem n) (map (λ m. IntegerItem m) ns) in let rest = weight-ints ns in omega arith
+weight-alike : {A : Type 0} (item : A → Item) → ((x : A) → item_weight (item x) ≡ 16) → (xs : List A) → sum_by item_weight (map item xs) ≡ 16 * length xs
+weight-alike item each [] = omega arith
+weight-alike item each (x ∷ xs) = let cons = sum_by-cons item_weight (item x) (map item xs) in let here = each x in let rest = weight-alike item each xs in omega arith
 
 weight-items : (items : Items) → sum_by item_weight (items_of items) ≡ items_weight items
 weight-items (Values vs) = sum_by-map item_weight item_of vs ∙ ap (λ (f : Value → ℕ). sum_by f vs) (λ i v. weight-item v i)
-weight-items (Ints ns) = weight-ints ns
+weight-items (Ints ns) = weight-alike (λ n. IntegerItem n) (λ n. refl) ns
+weight-items (Flags bs) = weight-alike (λ b. FlagItem b) (λ b. refl) bs
+weight-items (Bytes rows) = sum_by-map item_weight (λ bytes. BytesItem bytes) rows
+weight-items (Units rows) = sum_by-map item_weight (λ units. UnitsItem units) rows
 
 weight-beside : (decls : Declared) (v : View) (items : Items) → count_of items ≡ v.count → sum_by (λ (p : Place × Item). item_weight p.1) (beside decls v items) ≡ items_weight items
 weight-beside decls v items same =

@@ -13,7 +13,7 @@ use Rattle.sa_call.specs.declared.element.Stop.{Stop}
 use Rattle.sa_call.specs.declared.element.Stop.TheVariants as stop
 use Rattle.sa_call.specs.Elements.{StopsElement, admitted, and_admitted, and_later, gathered, is_missing_item, with_front}
 use Rattle.sa_call.specs.Walks.{HaltsResults, halt_at}
-use Rattle.sa_call.specs.Parts.{item_weight}
+use Rattle.sa_plain.specs.Items.{item_weight}
 
 -- results in front of those that are gathered behind them
 abbrev pub after : List Item → Result (List Item) (Refusal × ℕ) → Result (List Item) (Refusal × ℕ)

@@ -1,7 +1,7 @@
 -- What a call makes of what it read: its results and its reply.
 use Rattle.std.specs.Prelude.{ℕ, nat_lt, Bool, false, not, List, [], map, Option, Some, None, Result, Ok, Err, if◌then◌else◌}
 use Rattle.sa_base.specs.Items.{Item}
-use Rattle.sa_base.specs.Deeds.{Part, Read, Weighed, Counted, Pictured, PictureWeighed}
+use Rattle.sa_base.specs.Deeds.{Part, Read, Weighed, Counted, Pictured, PictureWeighed, part_at}
 use Rattle.sa_text.specs.Values.{value_of}
 use Rattle.sa_descr.specs.Missing.{miss_of}
 use Rattle.sa_descr.specs.Rules.{combination, is_given, rule_at, rules_of}
@@ -22,7 +22,7 @@ use Rattle.sa_call.specs.Decls.{Declared, home_of}
 use Rattle.sa_call.specs.Elements.{Setting, elements, gathered}
 use Rattle.sa_call.specs.Forms.{descr_of, entry}
 use Rattle.sa_call.specs.Limits.{most_weight}
-use Rattle.sa_call.specs.Parts.{Parts, part_at, items_read, weight_read, columns_of}
+use Rattle.sa_call.specs.Parts.{Parts, items_read, weight_read, columns_of}
 
 -- the number of a refusal in a report
 abbrev pub refusal_code : Refusal → ℕ

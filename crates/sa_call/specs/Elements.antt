@@ -9,13 +9,12 @@ use Rattle.sa_call.specs.declared.element.Stop.{Stop}
 use Rattle.sa_call.specs.declared.element.Stop.TheVariants as stop
 use Rattle.sa_call.specs.declared.reply.Refusal.{Refusal}
 use Rattle.sa_call.specs.declared.reply.Refusal.TheVariants as refusal
-use Rattle.sa_plain.specs.Items.{items_of}
+use Rattle.sa_plain.specs.Items.{items_of, item_weight}
 use Rattle.sa_plain.specs.declared.items.Items.{Items}
 use Rattle.sa_descr.specs.declared.missing.Miss.{Miss}
 use Rattle.sa_descr.specs.declared.missing.Miss.TheVariants.{Gone, AsText, No, Yes, Refuse}
 use Rattle.sa_call.specs.Forms.{Row, entry, item_in}
 use Rattle.sa_call.specs.Limits.{most_weight}
-use Rattle.sa_call.specs.Parts.{item_weight}
 
 -- how a call treats missing values: what comes of an element with a missing text, none where values are moved as they are, and the text that stands for a missing one
 pub record Setting : Type 0 where

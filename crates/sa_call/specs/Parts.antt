@@ -1,31 +1,16 @@
 -- What a call takes of its descriptors, as plain data, and its weight.
-use Rattle.std.specs.Prelude.{ℕ, ◌+◌, ◌*◌, ◌==◌, List, [], ◌∷◌, length, take, drop, map, sum_by, if◌then◌else◌}
-use Rattle.sa_base.specs.Items.{Item, MissingItem, TextItem, IntegerItem, FlagItem, BytesItem, UnitsItem}
-use Rattle.sa_base.specs.Deeds.{Place, Part, Read, Weighed, Counted, Pictured, PictureWeighed}
-use Rattle.sa_text.specs.Texts.{text_size}
-use Rattle.sa_plain.specs.Items.{items_of, items_weight}
+use Rattle.std.specs.Prelude.{ℕ, ◌+◌, ◌==◌, List, [], ◌∷◌, take, drop, map, sum_by, if◌then◌else◌}
+use Rattle.sa_base.specs.Items.{Item}
+use Rattle.sa_base.specs.Deeds.{Place, Part, Read, Weighed, Counted, Pictured, PictureWeighed, picture_weight}
+use Rattle.sa_plain.specs.Items.{items_of, items_weight, item_weight}
 use Rattle.sa_call.specs.declared.call.Operand.{Operand}
 use Rattle.sa_call.specs.declared.call.Operand.TheVariants as operand
 use Rattle.sa_call.specs.declared.call.Call.{Call}
 use Rattle.sa_call.specs.Decls.{Declared, home_of}
 
--- what an item weighs: 16, and the bytes of its text, its bytes, or four for each of its units
-abbrev pub item_weight : Item → ℕ
-item_weight MissingItem = 16
-item_weight (TextItem text) = 16 + text_size text
-item_weight (IntegerItem n) = 16
-item_weight (FlagItem b) = 16
-item_weight (BytesItem bytes) = 16 + length bytes
-item_weight (UnitsItem units) = 16 + 4 * length units
-
 -- what was read of each descriptor, by its number
 abbrev pub Parts : Type 0
 Parts = List (ℕ × Part)
-
--- what was read of a descriptor; nothing where it is not among the parts
-abbrev pub part_at : Parts → ℕ → Part
-part_at [] d = Read []
-part_at (p ∷ ps) d = if p.0 == d then p.1 else part_at ps d
 
 abbrev pub items_read : Part → List (Place × Item)
 items_read (Read items) = items
@@ -33,10 +18,6 @@ items_read (Weighed places weight) = []
 items_read (Counted stats) = []
 items_read (Pictured entries arena) = []
 items_read (PictureWeighed weight) = []
-
--- what a picture weighs: 16 for each entry, and the bytes of the arena
-abbrev pub picture_weight : List (List ℕ) → List ℕ → ℕ
-picture_weight entries arena = 16 * length entries + length arena
 
 -- the weight of what was read of a descriptor; statistics have none
 abbrev pub part_weight : Part → ℕ

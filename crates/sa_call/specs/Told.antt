@@ -93,12 +93,18 @@ view_counts [] = []
 view_counts (operand.View v ∷ os) = v.count ∷ view_counts os
 view_counts (operand.Literal items ∷ os) = view_counts os
 
+-- what a call of this kind reads has a weight
+abbrev pub has_weight : Gives → Bool
+has_weight gives.Same = true
+has_weight gives.Statistics = false
+has_weight gives.Picture = true
+
 -- Operands are those of a call: a list of values for each view, as long as it; statistics; a picture; or the weight of what weighs too much.
 abbrev pub AreOperands : Call → Operands → Type 0
 AreOperands call (operands.Items lists) = ((entry call.op).gives ≡ gives.Same) × (map count_of lists ≡ view_counts call.operands) × (all_values lists ≡ true)
 AreOperands call (operands.Stats stats) = (entry call.op).gives ≡ gives.Statistics
 AreOperands call (operands.Picture p) = ((entry call.op).gives ≡ gives.Picture) × (length p.entries ≤ most_entries)
-AreOperands call (operands.Big weight) = most_weight < weight
+AreOperands call (operands.Big weight) = (has_weight (entry call.op).gives ≡ true) × (most_weight < weight)
 
 -- these are the weights of what was not read, since it weighs too much: a number for each descriptor, and with the literals together the weight
 abbrev pub AreWeights : Declared → Call → Operands → List ℕ → Type 0

@@ -6,6 +6,7 @@ use Rattle.sa_view.specs.Views.{fits}
 use Rattle.sa_view.specs.declared.view.View.{View}
 use Rattle.sa_plain.specs.Items.{count_of, values_in, values_of}
 use Rattle.sa_plain.specs.declared.items.Items.{Items}
+use Rattle.sa_plain.specs.declared.items.Items.TheVariants.{Values, Ints, Flags, Bytes, Units}
 use Rattle.sa_descr.specs.Rules.{combination, rules_of}
 use Rattle.sa_call.specs.declared.call.Op.{Op}
 use Rattle.sa_call.specs.declared.call.Operand.{Operand}
@@ -38,6 +39,13 @@ has_missing items = list_any is_missing (values_of items)
 abbrev pub are_values : Items → Bool
 are_values items = is_some (values_in items)
 
+abbrev pub are_numbers : Items → Bool
+are_numbers (Values values) = false
+are_numbers (Ints numbers) = true
+are_numbers (Flags flags) = false
+are_numbers (Bytes rows) = false
+are_numbers (Units rows) = false
+
 abbrev pub all_values : List Items → Bool
 all_values lists = list_all are_values lists
 
@@ -48,7 +56,7 @@ is_kind sort.Literal (operand.Literal items) = are_values items
 is_kind sort.Texts (operand.View v) = true
 is_kind sort.Texts (operand.Literal items) = are_values items && not (has_missing items)
 is_kind sort.Numbers (operand.View v) = false
-is_kind sort.Numbers (operand.Literal items) = not (are_values items)
+is_kind sort.Numbers (operand.Literal items) = are_numbers items
 is_kind sort.Fill o = true
 is_kind sort.Descr o = true
 

@@ -9,7 +9,7 @@ ghost use Rattle.sa_call.specs.Decides.{decide, done, outcome_of, outcome_on, re
 ghost use Rattle.sa_call.specs.Decls.{IsDeclared};
 ghost use Rattle.sa_call.specs.Forms.{entry, IsMoving};
 ghost use Rattle.sa_call.specs.Limits.{most_entries, most_items, most_weight};
-ghost use Rattle.sa_call.specs.Parts.{picture_weight};
+ghost use Rattle.sa_base.specs.Deeds.{picture_weight};
 ghost use Rattle.sa_call.specs.Told.{parts_told, view_counts, AreOperands, AreWeights};
 ghost use Rattle.sa_call.specs.Valid.{IsCall, all_values};
 ghost use Rattle.sa_call.specs.declared.form.Gives.TheVariants.{Same};

@@ -1,6 +1,6 @@
 ghost use Rattle.std.specs.Prelude.{◌≡◌, ◌≤◌, length, IfOk};
 ghost use Rattle.sa_call.specs.Limits.{most_entries};
-ghost use Rattle.sa_call.specs.Parts.{picture_weight};
+ghost use Rattle.sa_base.specs.Deeds.{picture_weight};
 
 use sa_base::{Memory, Sequence, Stats};
 use sa_plain::{ByteList, ItemsList};

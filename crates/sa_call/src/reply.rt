@@ -1,9 +1,10 @@
-ghost use Rattle.std.specs.Prelude.{◌≡◌};
+ghost use Rattle.std.specs.Prelude.{◌≡◌, IfOk};
 ghost use Rattle.sa_call.specs.Decides.{refusal_code, refused_with, done};
 
 use crate::operands::Picture;
-use sa_base::Stats;
+use sa_base::{Memory, Stats};
 use sa_plain::Items;
+use std::alloc::Global;
 
 /// Why a call is refused.
 #[derive(Clone, Copy, Debug, PartialEq, Eq)]
@@ -45,6 +46,24 @@ pub enum Reply {
     Pictured(Picture),
     /// The call was refused, for this reason at this element, and changed nothing.
     Refused { code: u8, at: u32 },
+}
+
+impl Reply {
+    /// The same answer once more. `Memory` where there is no memory for it.
+    pub fn copy(&self, alloc: Global) -> Result<Reply, Memory>
+        ensures { IfOk result (λ r. r ≡ self.now) }
+    {
+        match self {
+            Reply::Done => Ok(Reply::Done),
+            Reply::Shown(items) => Ok(Reply::Shown(items.copy(alloc)?)),
+            Reply::Sized(stats) => Ok(Reply::Sized(*stats)),
+            Reply::Pictured(picture) => Ok(Reply::Pictured(picture.copy(alloc)?)),
+            Reply::Refused { code, at } => Ok(Reply::Refused {
+                code: *code,
+                at: *at,
+            }),
+        }
+    }
 }
 
 /// What comes of a call: the results, where it has an output and is not refused, and the reply.

@@ -3,11 +3,11 @@ use Rattle.std.proofs.Common.{◌≡◌, ◌<◌, ℕ, inl, inr, List, [], ◌�
 use Rattle.std.proofs.lemmas.Bool.Decides.{eqb_tells}
 use Rattle.std.proofs.lemmas.List.{get_or-map, get_or-set_same, get_or-set_other, map-set, length-map}
 use Rattle.std.proofs.Math.Seq.{map-set_same}
-use Rattle.sa_base.specs.Deeds.{Write}
+use Rattle.sa_base.specs.Deeds.{Write, writes_at}
 use Rattle.sa_alloc.specs.Layouts.{Layout, opening_layout}
 use Rattle.sa_alloc.specs.StoreValues.{StoreValue}
 use Rattle.sa_loop.specs.Runs.{layout_in}
-use Rattle.sa_loop.specs.Writes.{layout_written, writes_at}
+use Rattle.sa_loop.specs.Writes.{layout_written}
 
 abbrev layout_of : StoreValue → Layout
 layout_of s = s.contents.layout

@@ -5,6 +5,7 @@ pub mod SlotLemmas
 pub mod StepLemmas
 pub mod TakeLemmas
 pub mod WeighLemmas
+pub mod HomeLemmas
 pub mod WorldLemmas
 pub mod ViewLemmas
 pub mod HeldLemmas
@@ -13,3 +14,9 @@ pub mod RunLemmas
 pub mod ResultLemmas
 pub mod SameLemmas
 pub mod PerformLemmas
+pub mod RereadLemmas
+pub mod KnownLemmas
+pub mod OrderLemmas
+pub mod HistoryLemmas
+pub mod LockedLemmas
+pub mod OpenLemmas

@@ -16,7 +16,8 @@ use Rattle.sa_call.specs.declared.form.Gives.{Gives}
 use Rattle.sa_call.specs.declared.form.Gives.TheVariants as gives
 use Rattle.sa_call.specs.Decls.{Declared, home_of}
 use Rattle.sa_call.specs.Forms.{entry}
-use Rattle.sa_call.specs.Parts.{item_weight, part_weight}
+use Rattle.sa_plain.specs.Items.{item_weight}
+use Rattle.sa_call.specs.Parts.{part_weight}
 use Rattle.sa_call.specs.Told.{index_at_home, place_in, places_in}
 use Rattle.sa_loop.specs.Laws.{PartsTellWeights}
 use Rattle.sa_loop.specs.States.{State, array_in, view_values}

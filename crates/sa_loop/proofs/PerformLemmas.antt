@@ -11,7 +11,7 @@ use Rattle.sa_text.specs.declared.value.Value.TheVariants.{Missing}
 use Rattle.sa_view.specs.Views.{places_of, read_at}
 use Rattle.sa_plain.specs.Items.{count_of, values_of}
 use Rattle.sa_plain.specs.declared.items.Items.{Items}
-use Rattle.sa_plain.specs.declared.items.Items.TheVariants.{Values, Ints}
+use Rattle.sa_plain.specs.declared.items.Items.TheVariants.{Values, Ints, Flags, Bytes, Units}
 use Rattle.sa_call.specs.declared.call.Call.{Call}
 use Rattle.sa_call.specs.declared.decls.ArrayDecl.{ArrayDecl}
 use Rattle.sa_call.specs.declared.decls.Kind.TheVariants as kind
@@ -33,7 +33,8 @@ use Rattle.sa_loop.specs.Plays.{outcomes_from, play_replies, play_world}
 use Rattle.sa_loop.specs.Runs.{layout_in, shown, world_of}
 use Rattle.sa_loop.specs.States.{array_in, opening, lengths_of}
 use Rattle.sa_loop.specs.Takes.{outcome_in, parts_of}
-use Rattle.sa_loop.specs.Writes.{layout_written, puts_told, world_after, writes_at, writes_told, written}
+use Rattle.sa_base.specs.Deeds.{writes_at}
+use Rattle.sa_loop.specs.Writes.{layout_written, puts_told, world_after, writes_told, written}
 use Rattle.sa_loop.proofs.GatheredLemmas.{as-many}
 use Rattle.sa_loop.proofs.ResultLemmas.{results-many, results-values}
 use Rattle.sa_loop.proofs.RunLemmas.{world-more, outcomes-more, after-writes, IsAfter}
@@ -66,11 +67,11 @@ or_cases true b e = inl refl
 or_cases false b e = inr e
 
 -- the home of a declared array is declared
-home-declared : (decls : Declared) (array : ℕ) → IsDeclared decls → array < length decls.arrays → home_of decls array < length decls.descrs
+pub home-declared : (decls : Declared) (array : ℕ) → IsDeclared decls → array < length decls.arrays → home_of decls array < length decls.descrs
 home-declared decls array declared below = all_at (λ (a : ArrayDecl). a.home < length decls.descrs) decls.arrays array (record { home = 0; kind = kind.Str; len = 0 }) declared.homes below
 
 -- each descriptor that a valid call is on is declared
-named-declared : (decls : Declared) (call : Call) (d : ℕ) → IsDeclared decls → IsCall decls call → is_named decls call d ≡ true → d < length decls.descrs
+pub named-declared : (decls : Declared) (call : Call) (d : ℕ) → IsDeclared decls → IsCall decls call → is_named decls call d ≡ true → d < length decls.descrs
 named-declared decls call d declared valid named =
     elim (or_cases (list_any (operand_is_at decls d) call.operands || output_is_at decls d call.out) (is_number d (descr_of call.op)) named) [
       | inl on_views ↦ elim (or_cases (list_any (operand_is_at decls d) call.operands) (output_is_at decls d call.out) on_views) [
@@ -178,10 +179,16 @@ run-kept decls stores stores' calls same is = record {
 values-are : (items : Items) → are_values items ≡ true → Values (values_of items) ≡ items
 values-are (Values vs) is = refl
 values-are (Ints ns) is = absurd (false≢true is)
+values-are (Flags bs) is = absurd (false≢true is)
+values-are (Bytes rows) is = absurd (false≢true is)
+values-are (Units rows) is = absurd (false≢true is)
 
 counts-are : (items : Items) → are_values items ≡ true → length (values_of items) ≡ count_of items
 counts-are (Values vs) is = refl
 counts-are (Ints ns) is = absurd (false≢true is)
+counts-are (Flags bs) is = absurd (false≢true is)
+counts-are (Bytes rows) is = absurd (false≢true is)
+counts-are (Units rows) is = absurd (false≢true is)
 
 -- what is known of the arrays is known where the stores have the same contents
 pub known-same : (decls : Declared) (stores stores' : List StoreValue) (lasts : List (Option LastRead)) → map (λ (s : StoreValue). s.contents) stores' ≡ map (λ (s : StoreValue). s.contents) stores → AreKnown decls (world_of (layout_in stores)) lasts → AreKnown decls (world_of (layout_in stores')) lasts

@@ -4,12 +4,14 @@ use Rattle.std.proofs.lemmas.Bool.Decides.{eqb_tells}
 use Rattle.std.proofs.lemmas.List.FromFn.{length-map-range_with_len}
 use Rattle.std.proofs.Math.ListN.{length-map}
 use Rattle.sa_base.specs.Items.{Item}
-use Rattle.sa_base.specs.Deeds.{Part, Read, Weighed, Counted, Pictured, PictureWeighed}
-use Rattle.sa_text.specs.Values.{value_of}
+use Rattle.sa_base.specs.Deeds.{Part, Read, Weighed, Counted, Pictured, PictureWeighed, part_at}
+use Rattle.sa_text.specs.Values.{stretched, value_of}
+use Rattle.sa_text.specs.declared.value.Value.{Value}
 use Rattle.sa_view.specs.declared.view.View.{View}
 use Rattle.sa_view.specs.Broadcasts.{broadcast}
-use Rattle.sa_plain.specs.Items.{count_of}
+use Rattle.sa_plain.specs.Items.{count_of, item_weight}
 use Rattle.sa_plain.specs.declared.items.Items.{Items}
+use Rattle.sa_plain.specs.declared.items.Items.TheVariants.{Values}
 use Rattle.sa_call.specs.declared.call.Call.{Call}
 use Rattle.sa_call.specs.declared.reply.Refusal.{Refusal}
 use Rattle.sa_call.specs.declared.reply.Outcome.{Outcome}
@@ -19,7 +21,7 @@ use Rattle.sa_call.specs.Decls.{Declared}
 use Rattle.sa_call.specs.Elements.{and_admitted, and_later, elements, gathered, with_front}
 use Rattle.sa_call.specs.Forms.{descr_of}
 use Rattle.sa_call.specs.Limits.{most_weight}
-use Rattle.sa_call.specs.Parts.{Parts, columns_of, item_weight, items_read, part_at, weight_read}
+use Rattle.sa_call.specs.Parts.{Parts, columns_of, items_read, weight_read}
 use Rattle.sa_call.specs.Valid.{IsCall, are_values}
 
 -- results are as many as the elements
@@ -90,3 +92,7 @@ results-values decls call parts v items out is = heavy (nat_lt most_weight (weig
     heavy : (b : Bool) → nat_lt most_weight (weight_read call parts) ≡ b → are_values items ≡ true
     heavy true e = let none : Some items ≡ None = sym is ∙ rw e refl in cc
     heavy false e = light (descr_of call.op) (sym (rw e refl) ∙ is)
+
+-- the values that are planned are the results
+pub results-are : (count : ℕ) (slice values : List Value) (results : Items) → results ≡ Values values → values ≡ stretched (length values) slice → count_of results ≡ count → stretched count slice ≡ values
+results-are count slice values results same told many = ap (λ n. stretched n slice) (sym many ∙ ap count_of same) ∙ sym told

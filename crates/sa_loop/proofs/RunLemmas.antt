@@ -4,7 +4,7 @@ use Rattle.std.specs.List.{AllByRecursion}
 use Rattle.std.proofs.lemmas.Bool.Decides.{eqb_tells}
 use Rattle.std.proofs.lemmas.List.{length-replicate}
 use Rattle.std.proofs.lemmas.Simd.{map-map}
-use Rattle.sa_base.specs.Deeds.{Write}
+use Rattle.sa_base.specs.Deeds.{Write, writes_at}
 use Rattle.sa_alloc.specs.Layouts.{Fresh, Layout, IsSound}
 use Rattle.sa_alloc.specs.StoreValues.{StoreValue}
 use Rattle.sa_view.specs.declared.view.View.{View}
@@ -17,7 +17,7 @@ use Rattle.sa_loop.specs.Plays.{outcomes_from, world_left}
 use Rattle.sa_loop.specs.Runs.{shown, opening_layouts, IsLayout}
 use Rattle.sa_loop.specs.States.{World, opening, lengths_of}
 use Rattle.sa_loop.specs.Takes.{outcome_in}
-use Rattle.sa_loop.specs.Writes.{layout_written, world_after, writes_at, writes_told, written}
+use Rattle.sa_loop.specs.Writes.{layout_written, world_after, writes_told, written}
 use Rattle.sa_loop.proofs.StepLemmas.{IsWithin, steps}
 use Rattle.sa_loop.proofs.WorldLemmas.{opening-shown, writes-within}
 

@@ -3,7 +3,7 @@ use Rattle.std.proofs.Common.{◌≡◌, ◌<◌, ◌+◌, ℕ, List, [], ◌∷
 use Rattle.std.specs.List.{AllByRecursion, zip}
 use Rattle.std.proofs.lemmas.List.{length-map, length-drop, length-take-le, get_or-map, get_or-take, get_or-drop}
 use Rattle.sa_base.specs.Items.{Item}
-use Rattle.sa_base.specs.Deeds.{Place, Write, Put}
+use Rattle.sa_base.specs.Deeds.{Place, Write, Put, Tidy}
 use Rattle.sa_text.specs.Values.{value_of, item_of}
 use Rattle.sa_text.specs.declared.value.Value.{Value}
 use Rattle.sa_text.specs.declared.value.Value.TheVariants.{Missing, Of}
@@ -24,6 +24,7 @@ use Rattle.sa_loop.proofs.PieceLemmas.{pieces-set, piece-at, sum-within}
 -- the place of a write is one of the arrays of these lengths
 abbrev pub IsWithin : List ℕ → Write → Type 0
 IsWithin lengths (Put p item) = (p.array < length lengths) × (p.place < get_or lengths p.array 0)
+IsWithin lengths Tidy = ⊥
 
 -- one put
 
@@ -58,6 +59,7 @@ steps decls d l (Put p item ∷ ws) is all =
     let inside = subst (λ ns. AllByRecursion (IsWithin ns) ws) (sym (put-lengths l (entry_at l p) v)) all.1 in
     let rest = steps decls d after ws (layout-put decls d l (entry_at l p) v is) inside in
     record { layout = rest.layout; shows = rest.shows ∙ ap (λ s. written s ws) (shown-put l p item is.sound all.0) }
+steps decls d l (Tidy ∷ ws) is all = absurd all.0
 
 -- a state stays the one that its layout shows
 pub written-shown : (decls : Declared) (d : ℕ) (s : State) (ws : List Write) → IsShown decls d s → AllByRecursion (IsWithin s.layout.lengths) ws → IsShown decls d (written s ws)

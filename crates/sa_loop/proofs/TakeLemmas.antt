@@ -8,7 +8,7 @@ use Rattle.std.proofs.lemmas.List.{length-map}
 use Rattle.std.proofs.lemmas.List.FromFn.{length-map-range_with_len}
 use Rattle.std.proofs.lemmas.List.Sums.{length-filter, sum-map, sum_by-cons}
 use Rattle.sa_base.specs.Items.{Item}
-use Rattle.sa_base.specs.Deeds.{Place, Part, Read, Counted, Pictured}
+use Rattle.sa_base.specs.Deeds.{Place, Part, Read, Counted, Pictured, picture_weight}
 use Rattle.sa_text.specs.Values.{item_of}
 use Rattle.sa_view.specs.Views.{place_at, places_of}
 use Rattle.sa_view.specs.declared.view.View.{View}
@@ -25,8 +25,8 @@ use Rattle.sa_call.specs.declared.operands.Operands.{Operands}
 use Rattle.sa_call.specs.declared.operands.Operands.TheVariants as operands
 use Rattle.sa_call.specs.Decls.{Declared, IsDeclared, home_of}
 use Rattle.sa_call.specs.Forms.{entry, descr_of}
-use Rattle.sa_call.specs.Parts.{Parts, literal_weight, part_weight, picture_weight, weight_read}
-use Rattle.sa_call.specs.Told.{homes_of, is_named, is_number, items_told, operand_is_at, output_is_at, parts_told, places_in, places_told, view_counts, weighed_by, weighed_parts}
+use Rattle.sa_call.specs.Parts.{Parts, literal_weight, part_weight, weight_read}
+use Rattle.sa_call.specs.Told.{has_weight, homes_of, is_named, is_number, items_told, operand_is_at, output_is_at, parts_told, places_in, places_told, view_counts, weighed_by, weighed_parts}
 use Rattle.sa_call.specs.Valid.{IsCall, IsLiteralOperand, all_values, is_descr_of, is_operand_of, is_view_of}
 use Rattle.sa_call.proofs.OpLemmas.{few-operands, on-none, on-whole, whole-alone}
 use Rattle.sa_call.proofs.PartLemmas.{count-once, sum_by-map}
@@ -153,6 +153,12 @@ told-light decls w call parts are light =
     let weighs = ap (weight_read call) are ∙ parts-weigh decls w call in
     omega arith
 
+-- what is not statistics has a weight
+weighs : (g : Gives) → (g ≡ gives.Statistics → ⊥) → has_weight g ≡ true
+weighs gives.Same other = refl
+weighs gives.Statistics other = absurd (other refl)
+weighs gives.Picture other = refl
+
 -- what weighs too much is taken as its weights
 pub taken-heavy : (decls : Declared) (layouts : ℕ → Layout) (call : Call) (weights : List ℕ) (total : ℕ) → ((entry call.op).gives ≡ gives.Statistics → ⊥) → weights ≡ weights_in decls (world_of layouts) call
     → sum weights + sum_by literal_weight call.operands ≡ total → 1048576 < total → IsTaken decls layouts call (operands.Big total) weights
@@ -162,7 +168,7 @@ taken-heavy decls layouts call weights total other are sums heavy =
     let all : call_weight decls w call ≡ total = sym (weight-all decls w call) ∙ ap (λ (ws : List ℕ). sum ws + sum_by literal_weight call.operands) (sym are) ∙ sums in
     let over : is_heavy decls w call ≡ true = lt-ltb 1048576 (call_weight decls w call) (omega arith) in
     record {
-      are_operands = heavy;
+      are_operands = (weighs (entry call.op).gives other, heavy);
       are_weights = (ap length are ∙ length-map homes (λ d. weight decls (w d) call d), sums);
       are_light = tt;
       parts =
@@ -212,7 +218,7 @@ alone d n below =
     ∙ ap (λ k. replicate k d) (length-filter (eqb d) (range_with_len 0 n) ∙ count-once d 0 n (omega arith) (omega arith))
 
 -- the only home, and no operands
-home-alone : (decls : Declared) (call : Call) (number : ℕ) → IsCall decls call → descr_of call.op ≡ Some number → (homes_of decls call ≡ number ∷ []) × (call.operands ≡ [])
+pub home-alone : (decls : Declared) (call : Call) (number : ℕ) → IsCall decls call → descr_of call.op ≡ Some number → (homes_of decls call ≡ number ∷ []) × (call.operands ≡ [])
 home-alone decls call number valid at =
     let none = whole-alone call.op call.operands call.out (on-whole call.op number at) valid.sorts valid.output in
     let below = ltb-true number (length decls.descrs) (ap (is_descr_of decls) (sym at) ∙ valid.descr) in

@@ -38,7 +38,7 @@ pub record IsReady (decls : Declared) (l : Layout) (v : View) (slot : ℕ) (plac
   pub values : map (λ p. value_at l (first_entry l.lengths slot + p)) places ≡ view_values decls (shown l) v
   pub weight : sum_by (λ p. value_weight (value_at l (first_entry l.lengths slot + p))) places ≡ weight_of (view_values decls (shown l) v)
 
-ready-at : (decls : Declared) (l : Layout) (v : View) → IsViewIn decls v l → IsReady decls l v (index_at_home decls v.array) (places_of v)
+pub ready-at : (decls : Declared) (l : Layout) (v : View) → IsViewIn decls v l → IsReady decls l v (index_at_home decls v.array) (places_of v)
 ready-at decls l v is =
     let slot = index_at_home decls v.array in
     let are = are-places v (length_at decls.arrays v.array) is.view in

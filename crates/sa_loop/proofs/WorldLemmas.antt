@@ -7,7 +7,7 @@ use Rattle.std.proofs.lemmas.List.{length-replicate, get_or_past}
 use Rattle.std.proofs.lemmas.List.Sums.{sum-map}
 use Rattle.std.proofs.lemmas.Simd.{map-map}
 use Rattle.sa_base.specs.Items.{Item}
-use Rattle.sa_base.specs.Deeds.{Put}
+use Rattle.sa_base.specs.Deeds.{Put, writes_at}
 use Rattle.sa_text.specs.Values.{item_of, value_of, value_weight, weight_of}
 use Rattle.sa_text.specs.declared.value.Value.{Value}
 use Rattle.sa_text.specs.declared.value.Value.TheVariants.{Missing, Of}
@@ -32,7 +32,7 @@ use Rattle.sa_loop.specs.Plays.{play_world, world_left}
 use Rattle.sa_loop.specs.Runs.{IsLayout, IsShown, pieces, shown, strings_in}
 use Rattle.sa_loop.specs.States.{State, World, array_in, lengths_of, opening, view_values}
 use Rattle.sa_loop.specs.Takes.{outcome_in}
-use Rattle.sa_loop.specs.Writes.{put_item, puts_told, world_after, writes_at, writes_told, written}
+use Rattle.sa_loop.specs.Writes.{put_item, puts_told, world_after, writes_told, written}
 use Rattle.sa_loop.proofs.PieceLemmas.{pieces-replicate, sum-within}
 use Rattle.sa_loop.proofs.SlotLemmas.{slot-within, slot-length, slots-differ, small-lengths}
 use Rattle.sa_loop.proofs.StepLemmas.{IsWithin, written-shown, length-strings, entry-shown}

@@ -15,7 +15,7 @@ use Rattle.sa_call.specs.declared.operands.Operands.TheVariants as operands
 use Rattle.sa_call.specs.declared.reply.Reply.{Reply}
 use Rattle.sa_call.specs.Decls.{Declared, IsDeclared, home_of, length_at}
 use Rattle.sa_call.specs.Limits.{most_items, most_weight}
-use Rattle.sa_call.specs.Parts.{picture_weight}
+use Rattle.sa_base.specs.Deeds.{picture_weight}
 use Rattle.sa_call.specs.Told.{is_named, parts_told, AreLight, AreOperands, AreWeights}
 use Rattle.sa_call.specs.Valid.{IsCall}
 use Rattle.sa_loop.specs.Plays.{play_replies, play_world}

@@ -3,9 +3,13 @@ use Rattle.std.specs.Prelude.{◌≡◌, ℕ, zero, suc, ◌+◌, ◌==◌, Bool
 use Rattle.sa_call.specs.declared.call.Call.{Call}
 use Rattle.sa_call.specs.declared.call.Op.TheVariants as op
 
+-- a call that shows nothing
+abbrev pub no_call : Call
+no_call = record { op = op.Show; operands = []; out = None }
+
 -- the call of a task and a number; one that shows nothing where there is none
 abbrev pub call_at : List (List Call) → ℕ × ℕ → Call
-call_at tasks pair = slice_index_or (slice_index_or tasks pair.0 []) pair.1 (record { op = op.Show; operands = []; out = None })
+call_at tasks pair = slice_index_or (slice_index_or tasks pair.0 []) pair.1 no_call
 
 -- the numbers of a task's calls in a history, in order
 abbrev pub calls_of : ℕ → List (ℕ × ℕ) → List ℕ

@@ -1,9 +1,15 @@
 pub use Rattle.sa_base.specs.Deeds
+pub use Rattle.sa_journal.specs.Said
+pub mod Acts
 pub mod Gathers
 pub mod Held
 pub mod Histories
 pub mod LastReads
 pub mod Laws
+pub mod Locked
+pub mod OneHistory
+pub mod Openings
+pub mod Orders
 pub mod Performs
 pub mod Plays
 pub mod Runs

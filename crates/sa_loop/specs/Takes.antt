@@ -1,7 +1,7 @@
 -- What a call takes of its descriptors, and what comes of it.
 use Rattle.std.specs.Prelude.{ℕ, ◌+◌, ◌==◌, nat_lt, Bool, List, [], ◌∷◌, ◌++◌, map, sum_by, zip, if◌then◌else◌}
 use Rattle.sa_base.specs.Items.{Item}
-use Rattle.sa_base.specs.Deeds.{Place, Part, Read, Weighed, Counted, Pictured, PictureWeighed}
+use Rattle.sa_base.specs.Deeds.{Place, Part, Read, Weighed, Counted, Pictured, PictureWeighed, picture_weight}
 use Rattle.sa_text.specs.Values.{item_of, weight_of}
 use Rattle.sa_alloc.specs.Layouts.{stats_of, entry_images, arena_image}
 use Rattle.sa_plain.specs.declared.items.Items.{Items}
@@ -16,7 +16,7 @@ use Rattle.sa_call.specs.Decides.{decide}
 use Rattle.sa_call.specs.Decls.{Declared, home_of}
 use Rattle.sa_call.specs.Forms.{entry}
 use Rattle.sa_call.specs.Limits.{most_weight}
-use Rattle.sa_call.specs.Parts.{Parts, literal_weight, picture_weight}
+use Rattle.sa_call.specs.Parts.{Parts, literal_weight}
 use Rattle.sa_call.specs.Told.{homes_of, places_in, places_told}
 use Rattle.sa_loop.specs.States.{State, World, view_values}
 

@@ -1,10 +1,11 @@
 -- What the results of a call make of a state: one put after another.
-use Rattle.std.specs.Prelude.{ℕ, ◌+◌, ◌==◌, List, [], ◌∷◌, map, zip, slice_set, Option, Some, None, if◌then◌else◌}
+use Rattle.std.specs.Prelude.{ℕ, ◌+◌, List, [], ◌∷◌, map, zip, slice_set, Option, Some, None}
 use Rattle.sa_base.specs.Items.{Item}
-use Rattle.sa_base.specs.Deeds.{Place, Write, Put}
+use Rattle.sa_base.specs.Deeds.{Place, Write, Put, Tidy, writes_at}
 use Rattle.sa_text.specs.Values.{value_of}
 use Rattle.sa_view.specs.declared.view.View.{View}
 use Rattle.sa_alloc.specs.Layouts.{Layout, first_entry, put}
+use Rattle.sa_alloc.specs.Tidies.{tidy}
 use Rattle.sa_plain.specs.Items.{items_of}
 use Rattle.sa_plain.specs.declared.items.Items.{Items}
 use Rattle.sa_call.specs.declared.call.Call.{Call}
@@ -27,10 +28,6 @@ writes_told decls None results = []
 writes_told decls (Some out) None = []
 writes_told decls (Some out) (Some results) = (home_of decls out.array, puts_told decls out results) ∷ []
 
-abbrev pub writes_at : Writes → ℕ → List Write
-writes_at [] d = []
-writes_at (w ∷ ws) d = if w.0 == d then w.1 else writes_at ws d
-
 -- the number of an entry of a layout
 abbrev pub entry_at : Layout → Place → ℕ
 entry_at l p = first_entry l.lengths p.array + p.place
@@ -39,6 +36,7 @@ entry_at l p = first_entry l.lengths p.array + p.place
 abbrev pub layout_written : Layout → List Write → Layout
 layout_written l [] = l
 layout_written l (Put p item ∷ ws) = layout_written (put l (entry_at l p) (value_of item)) ws
+layout_written l (Tidy ∷ ws) = layout_written (tidy l) ws
 
 -- the put of an item at a place of a state
 abbrev pub put_item : State → Place → Item → State
@@ -47,10 +45,15 @@ put_item s p item = record {
   layout = put s.layout (entry_at s.layout p) (value_of item);
 }
 
+-- a state after a tidy
+abbrev pub tidied : State → State
+tidied s = record { strings = s.strings; layout = tidy s.layout }
+
 -- a state after writes, one after another
 abbrev pub written : State → List Write → State
 written s [] = s
 written s (Put p item ∷ ws) = written (put_item s p item) ws
+written s (Tidy ∷ ws) = written (tidied s) ws
 
 -- The effect of a call: its reply, and the world in which its results were put into the arrays and into the layout of its output's home, in order.
 abbrev pub reply_in : Declared → World → Call → Reply

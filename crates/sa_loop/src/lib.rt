@@ -7,26 +7,33 @@
 #![tactic(auto)]
 
 mod act;
+mod call_homes;
+mod deed;
 mod gathered;
 mod gathering;
 mod last_read;
 mod laws;
 mod listed;
+mod locked;
 mod opening;
 mod performing;
 mod picture;
 mod places;
 mod rooms;
+mod run;
 mod taking;
 mod writing;
 
 pub use act::{Act, WeightList};
+pub use call_homes::homes;
 pub use gathered::Gathered;
 pub use last_read::{LastRead, LastReads};
-pub use laws::{calls_leave_rest, layouts_show_items, parts_tell_weights};
+pub use laws::{calls_leave_rest, layouts_show_items, one_history, one_order, parts_tell_weights};
 pub use listed::Listed;
+pub use locked::{perform, perform_call};
 pub use places::index_at_home;
 pub use rooms::Rooms;
+pub use run::{Opened, open_run};
 pub use taking::take;
 pub use writing::plan_results;
 

@@ -25,7 +25,7 @@ pub fn opening_stores(alloc: Global, decls: &Decls) -> Result<Vec<Store>, Memory
 }
 
 /// The lengths of a descriptor's arrays, in order of declaration.
-fn lengths_of(alloc: Global, decls: &Decls, home: usize) -> Result<Vec<u32>, Memory>
+pub(crate) fn lengths_of(alloc: Global, decls: &Decls, home: usize) -> Result<Vec<u32>, Memory>
     ensures { IfOk result (λ lengths. lengths.items ≡ lengths_of decls.now home) }
 {
     let mut lengths = Vec::new(alloc);

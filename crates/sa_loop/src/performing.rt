@@ -8,7 +8,8 @@ ghost use Rattle.sa_loop.specs.LastReads.{unknown_output, AreKnown, AreThere};
 ghost use Rattle.sa_loop.specs.States.{World};
 ghost use Rattle.sa_loop.specs.Performs.{IsOneMore, CanPut, IsSoundAt};
 ghost use Rattle.sa_loop.specs.Runs.{shown, world_of, layout_in};
-ghost use Rattle.sa_loop.specs.Writes.{world_after, writes_told, writes_at, layout_written};
+ghost use Rattle.sa_base.specs.Deeds.{writes_at};
+ghost use Rattle.sa_loop.specs.Writes.{world_after, writes_told, layout_written};
 
 use crate::act::Act;
 use crate::last_read::{LastRead, LastReads, place};
@@ -82,7 +83,12 @@ impl<'s> Listed<'s> {
 }
 
 /// What comes of a call, by what was read for it, with results that copies share.
-fn evaluated(alloc: Global, decls: &Decls, call: &Call, read: &Operands) -> Result<Outcome, Memory>
+pub(crate) fn evaluated(
+    alloc: Global,
+    decls: &Decls,
+    call: &Call,
+    read: &Operands,
+) -> Result<Outcome, Memory>
     requires call { IsCall decls.now call.now }
     requires read { AreOperands call.now read.now }
     ensures { IfOk result (λ o. (weights : List ℕ) → AreWeights decls.now call.now read.now weights → o ≡ decide decls.now call.now (parts_told decls.now call.now read.now weights)) }

@@ -1,6 +1,7 @@
 ghost use Rattle.std.specs.Prelude.{◌≡◌, ◌==◌, ◌*◌, ◌≤◌, IfOk, option_map};
 ghost use Rattle.sa_plain.specs.Items.{count_of, items_weight, values_in};
 
+use crate::rows::Rows;
 use sa_base::{Memory, Sequence};
 use sa_text::ValueList;
 use std::alloc::Global;
@@ -11,6 +12,21 @@ const ITEM_WEIGHT: u64 = 16;
 /// A list of numbers.
 pub type IntList = Sequence<i64>;
 
+/// A list of flags.
+pub type FlagList = Sequence<bool>;
+
+/// A list of bytes.
+pub type ByteList = Sequence<u8>;
+
+/// A list of byte texts, each of at most 256 bytes.
+pub type ByteLists = Rows<u8>;
+
+/// A list of units: numbers of 32 bits, which need not be Unicode scalar values.
+pub type UnitList = Sequence<u32>;
+
+/// A list of unicode texts, each of at most 256 units.
+pub type UnitLists = Rows<u32>;
+
 /// Items of one kind: those of an operand, of a result, or of an array.
 #[derive(Debug, Drop)]
 pub enum Items {
@@ -18,6 +34,12 @@ pub enum Items {
     Values(ValueList),
     /// Numbers.
     Ints(IntList),
+    /// Flags.
+    Flags(FlagList),
+    /// Byte texts of a fixed width.
+    Bytes(ByteLists),
+    /// Unicode texts of a fixed width.
+    Units(UnitLists),
 }
 
 impl Items {
@@ -29,6 +51,9 @@ impl Items {
         match self {
             Items::Values(values) => values.len(),
             Items::Ints(numbers) => numbers.len(),
+            Items::Flags(flags) => flags.len(),
+            Items::Bytes(rows) => rows.len(),
+            Items::Units(rows) => rows.len(),
         }
     }
 
@@ -47,12 +72,12 @@ impl Items {
     {
         match self {
             Items::Values(values) => Some(values),
-            Items::Ints(_) => None,
+            Items::Ints(_) | Items::Flags(_) | Items::Bytes(_) | Items::Units(_) => None,
         }
     }
 
-    /// The weight of the items: 16 for each, and the bytes of each text. An item that stands for many is
-    /// looked at once.
+    /// The weight of the items: 16 for each, and the bytes of each text, its bytes or four for each unit
+    /// where it has a fixed width. An item that stands for many is looked at once.
     pub fn weight(&self) -> u64
         requires { count_of self.now ≤ 8192 }
         ensures weight { result ≡ items_weight self.now }
@@ -61,6 +86,9 @@ impl Items {
         match self {
             Items::Values(values) => values.weight(),
             Items::Ints(numbers) => ITEM_WEIGHT * numbers.len() as u64,
+            Items::Flags(flags) => ITEM_WEIGHT * flags.len() as u64,
+            Items::Bytes(rows) => ITEM_WEIGHT * rows.len() as u64 + rows.count_cells(),
+            Items::Units(rows) => ITEM_WEIGHT * rows.len() as u64 + 4 * rows.count_cells(),
         }
     }
 
@@ -71,7 +99,7 @@ impl Items {
     {
         match self {
             Items::Values(values) => values.share(alloc),
-            Items::Ints(_) => Ok(()),
+            Items::Ints(_) | Items::Flags(_) | Items::Bytes(_) | Items::Units(_) => Ok(()),
         }
     }
 
@@ -86,12 +114,15 @@ impl Items {
                 let numbers = IntList::from_slice(alloc, numbers.as_slice())?;
                 Ok(Items::Ints(numbers))
             }
+            Items::Flags(flags) => {
+                let flags = FlagList::from_slice(alloc, flags.as_slice())?;
+                Ok(Items::Flags(flags))
+            }
+            Items::Bytes(rows) => Ok(Items::Bytes(rows.copy(alloc)?)),
+            Items::Units(rows) => Ok(Items::Units(rows.copy(alloc)?)),
         }
     }
 }
-
-/// A list of bytes.
-pub type ByteList = Sequence<u8>;
 
 /// A list of lists of items.
 pub type ItemsList = Sequence<Items>;

@@ -69,3 +69,108 @@ fn numbers_are_weighed_and_written(rt: HostRuntime) -> Result<(), Fail> {
     assert_eq!(rt; written(alloc, &items.copy(alloc)?)?.as_slice(), bytes);
     Ok(())
 }
+
+/// Lists of bytes as a list of byte texts.
+fn byte_texts(alloc: Global, texts: &[&[u8]]) -> Result<Items, Fail> {
+    let mut rows = ByteLists::new(alloc);
+    for text in texts {
+        if text.len() <= 256 {
+            rows.push(ByteList::from_slice(alloc, text)?)?;
+        }
+    }
+    Ok(Items::Bytes(rows))
+}
+
+/// Lists of units as a list of unicode texts.
+fn unit_texts(alloc: Global, texts: &[&[u32]]) -> Result<Items, Fail> {
+    let mut rows = UnitLists::new(alloc);
+    for text in texts {
+        if text.len() <= 256 {
+            rows.push(UnitList::from_slice(alloc, text)?)?;
+        }
+    }
+    Ok(Items::Units(rows))
+}
+
+#[test]
+fn flags_bytes_and_units_are_weighed_and_written(rt: HostRuntime) -> Result<(), Fail> {
+    let alloc = rt.alloc();
+    let flags = Items::Flags(FlagList::from_slice(alloc, &[true, false])?);
+    let bytes = byte_texts(alloc, &[&[0, 0xff, 0x1a], &[]])?;
+    let units = unit_texts(alloc, &[&[0x68, 0xe9], &[0xd800, 0, 0x10ffff, u32::MAX]])?;
+    let none = unit_texts(alloc, &[&[]])?;
+    let rows = [
+        (flags, 2, 32, b"(true,false)".as_slice()),
+        (bytes, 2, 35, b"(hex:00ff1a,hex:)"),
+        (units, 2, 56, b"(units:68.e9,units:d800.0.10ffff.ffffffff)"),
+        (none, 1, 16, b"(units:)"),
+    ];
+    for (items, count, weight, bytes) in &rows {
+        assert!(rt; items.values().is_none() && items.len() == *count && items.len() <= 8192);
+        assert_eq!(rt; items.weight(), *weight);
+        assert_eq!(rt; written(alloc, &items.copy(alloc)?)?.as_slice(), *bytes);
+    }
+    Ok(())
+}
+
+#[test]
+fn a_new_plain_array_is_of_zeros(rt: HostRuntime) -> Result<(), Fail> {
+    let alloc = rt.alloc();
+    let bytes = Plain::new(alloc, PlainKind::Bytes(4), 2)?;
+    let units = Plain::new(alloc, PlainKind::Fixed(2), 1)?;
+    let ints = Plain::new(alloc, PlainKind::Int, 2)?;
+    let flags = Plain::new(alloc, PlainKind::Bool, 2)?;
+    assert!(rt; ints.kind() == PlainKind::Int && flags.kind() == PlainKind::Bool);
+    assert!(rt; bytes.kind() == PlainKind::Bytes(4) && units.kind() == PlainKind::Fixed(2));
+    assert!(rt; bytes.len() == 2 && units.len() == 1 && ints.len() == 2 && flags.len() == 2);
+    let rows = [
+        (
+            bytes.items_at(alloc, &[0, 1])?,
+            b"(hex:00000000,hex:00000000)".as_slice(),
+        ),
+        (units.items_at(alloc, &[0])?, b"(units:0.0)"),
+        (ints.items_at(alloc, &[1])?, b"(0)"),
+        (flags.items_at(alloc, &[0, 1])?, b"(false,false)"),
+    ];
+    for (items, bytes) in &rows {
+        assert_eq!(rt; written(alloc, items)?.as_slice(), *bytes);
+    }
+    Ok(())
+}
+
+#[test]
+fn items_are_put_at_places_and_padded(rt: HostRuntime) -> Result<(), Fail> {
+    let alloc = rt.alloc();
+    let mut units = Plain::new(alloc, PlainKind::Fixed(2), 3)?;
+    let mut texts = UnitLists::new(alloc);
+    texts.push(UnitList::from_slice(alloc, &[0x68, 0xe9])?)?;
+    texts.push(UnitList::from_slice(alloc, &[0xd800])?)?;
+    units.put_items(&[2, 0], &Items::Units(texts));
+    let found = units.items_at(alloc, &[0, 1, 2, 2])?;
+    let wanted = b"(units:d800.0,units:0.0,units:68.e9,units:68.e9)".as_slice();
+    assert_eq!(rt; written(alloc, &found)?.as_slice(), wanted);
+    let mut ints = Plain::new(alloc, PlainKind::Int, 2)?;
+    let numbers = IntList::from_slice(alloc, &[5, -7])?;
+    ints.put_items(&[1, 1], &Items::Ints(numbers));
+    let found = ints.items_at(alloc, &[0, 1])?;
+    assert_eq!(rt; written(alloc, &found)?.as_slice(), b"(0,-7)".as_slice());
+    Ok(())
+}
+
+#[test]
+fn one_item_is_put_and_read(rt: HostRuntime) -> Result<(), Fail> {
+    let alloc = rt.alloc();
+    let mut ints = Plain::new(alloc, PlainKind::Int, 2)?;
+    ints.put_int(1, i64::MIN);
+    assert_eq!(rt; ints.get_int(1), i64::MIN);
+    let mut flags = Plain::new(alloc, PlainKind::Bool, 2)?;
+    flags.put_flag(0, true);
+    assert!(rt; flags.get_flag(0) && !flags.get_flag(1));
+    let mut bytes = Plain::new(alloc, PlainKind::Bytes(2), 2)?;
+    bytes.put_bytes(1, b"h");
+    assert_eq!(rt; bytes.get_bytes(1), b"h\0".as_slice());
+    let mut units = Plain::new(alloc, PlainKind::Fixed(2), 2)?;
+    units.put_units(0, &[0xd800, 0xe9]);
+    assert_eq!(rt; units.get_units(0), [0xd800, 0xe9].as_slice());
+    Ok(())
+}

@@ -1,42 +1,103 @@
 ghost use Rattle.std.specs.Prelude.{◌≡◌, ◌++◌, ◌∷◌, [], replicate, OnOk};
 ghost use Rattle.std.specs.List.{flat_map, join_by};
-ghost use Rattle.sa_plain.specs.Written.{value_bytes, number_bytes, list_bytes};
+ghost use Rattle.sa_plain.specs.Written.{value_bytes, number_bytes, flag_bytes, unit_bytes, byte_text, unit_text, list_bytes};
 
-use crate::items::Items;
+use crate::hex::{push_hex, push_unit};
+use crate::items::{ByteList, Items, UnitList};
 use sa_base::Memory;
 use sa_lines::{push_decimal, push_quoted};
 use sa_text::{Value, ValueList};
 
-/// Writes one value of a list.
-fn push_value(out: &mut Vec<u8>, value: &Value) -> Result<(), Memory>
-    ensures { OnOk result (out.new.items ≡ out.old.items ++ value_bytes value.now) }
-{
-    match value {
-        Value::Missing => Ok(out.extend_from_slice(b"na")?),
-        Value::Of(text) => push_quoted(out, text.as_bytes()),
+/// What is written of one item of a list, or of one unit of a text.
+trait Written {
+    ghost use Rattle.std.specs.Prelude.{ℕ, List};
+
+    ghost bytes: { Self → List ℕ };
+
+    /// Writes it at the end.
+    fn push_to(&self, out: &mut Vec<u8>) -> Result<(), Memory>
+        ensures { OnOk result (out.new.items ≡ out.old.items ++ bytes self.now) };
+}
+
+impl Written for Value {
+    ghost bytes = { value_bytes };
+
+    fn push_to(&self, out: &mut Vec<u8>) -> Result<(), Memory> {
+        match self {
+            Value::Missing => Ok(out.extend_from_slice(b"na")?),
+            Value::Of(text) => push_quoted(out, text.as_bytes()),
+        }
     }
 }
 
-/// Writes values with a comma in front of each.
-fn push_further(out: &mut Vec<u8>, values: &[Value]) -> Result<(), Memory>
-    ensures { OnOk result (out.new.items ≡ out.old.items ++ flat_map (λ v. 44 ∷ value_bytes v) values.now) }
+impl Written for i64 {
+    ghost bytes = { number_bytes };
+
+    fn push_to(&self, out: &mut Vec<u8>) -> Result<(), Memory> {
+        if *self < 0 {
+            out.push(b'-')?;
+        }
+        push_decimal(out, self.unsigned_abs())
+    }
+}
+
+impl Written for bool {
+    ghost bytes = { flag_bytes };
+
+    fn push_to(&self, out: &mut Vec<u8>) -> Result<(), Memory> {
+        match self {
+            true => Ok(out.extend_from_slice(b"true")?),
+            false => Ok(out.extend_from_slice(b"false")?),
+        }
+    }
+}
+
+impl Written for ByteList {
+    ghost bytes = { byte_text };
+
+    fn push_to(&self, out: &mut Vec<u8>) -> Result<(), Memory> {
+        out.extend_from_slice(b"hex:")?;
+        push_hex(out, self.as_slice())
+    }
+}
+
+impl Written for u32 {
+    ghost bytes = { unit_bytes };
+
+    fn push_to(&self, out: &mut Vec<u8>) -> Result<(), Memory> {
+        push_unit(out, *self)
+    }
+}
+
+impl Written for UnitList {
+    ghost bytes = { unit_text };
+
+    fn push_to(&self, out: &mut Vec<u8>) -> Result<(), Memory> {
+        out.extend_from_slice(b"units:")?;
+        push_joined(out, self.as_slice(), b'.')
+    }
+}
+
+/// Writes items with a mark in front of each.
+fn push_further<T: Written>(out: &mut Vec<u8>, items: &[T], mark: u8) -> Result<(), Memory>
+    ensures { OnOk result (out.new.items ≡ out.old.items ++ flat_map (λ x. (mark ∷ []) ++ T.bytes x) items.now) }
 {
-    for value in values {
-        out.push(b',')?;
-        push_value(out, value)?;
+    for item in items {
+        out.push(mark)?;
+        item.push_to(out)?;
     }
     Ok(())
 }
 
-/// Writes values with a comma between two of them.
-fn push_values(out: &mut Vec<u8>, values: &[Value]) -> Result<(), Memory>
-    ensures { OnOk result (out.new.items ≡ out.old.items ++ join_by value_bytes (44 ∷ []) values.now) }
+/// Writes items with a mark between two of them.
+fn push_joined<T: Written>(out: &mut Vec<u8>, items: &[T], mark: u8) -> Result<(), Memory>
+    ensures { OnOk result (out.new.items ≡ out.old.items ++ join_by T.bytes (mark ∷ []) items.now) }
 {
-    match values.split_first() {
+    match items.split_first() {
         None => Ok(()),
         Some((first, others)) => {
-            push_value(out, first)?;
-            push_further(out, others)
+            first.push_to(out)?;
+            push_further(out, others, mark)
         }
     }
 }
@@ -47,7 +108,7 @@ fn push_further_times(out: &mut Vec<u8>, value: &Value, count: usize) -> Result<
 {
     for _k in 0..count {
         out.push(b',')?;
-        push_value(out, value)?;
+        value.push_to(out)?;
     }
     Ok(())
 }
@@ -59,7 +120,7 @@ fn push_times(out: &mut Vec<u8>, value: &Value, count: usize) -> Result<(), Memo
     let Some(others) = count.checked_sub(1) else {
         return Ok(());
     };
-    push_value(out, value)?;
+    value.push_to(out)?;
     push_further_times(out, value, others)
 }
 
@@ -70,41 +131,7 @@ fn push_list(out: &mut Vec<u8>, list: &ValueList) -> Result<(), Memory>
 {
     match list.as_slice() {
         [only] => push_times(out, only, list.len()),
-        values => push_values(out, values),
-    }
-}
-
-/// Writes one number of a list.
-fn push_number(out: &mut Vec<u8>, number: i64) -> Result<(), Memory>
-    ensures { OnOk result (out.new.items ≡ out.old.items ++ number_bytes number) }
-{
-    if number < 0 {
-        out.push(b'-')?;
-    }
-    push_decimal(out, number.unsigned_abs())
-}
-
-/// Writes numbers with a comma in front of each.
-fn push_further_numbers(out: &mut Vec<u8>, numbers: &[i64]) -> Result<(), Memory>
-    ensures { OnOk result (out.new.items ≡ out.old.items ++ flat_map (λ n. 44 ∷ number_bytes n) numbers.now) }
-{
-    for number in numbers {
-        out.push(b',')?;
-        push_number(out, *number)?;
-    }
-    Ok(())
-}
-
-/// Writes numbers with a comma between two of them.
-fn push_numbers(out: &mut Vec<u8>, numbers: &[i64]) -> Result<(), Memory>
-    ensures { OnOk result (out.new.items ≡ out.old.items ++ join_by number_bytes (44 ∷ []) numbers.now) }
-{
-    match numbers.split_first() {
-        None => Ok(()),
-        Some((first, others)) => {
-            push_number(out, *first)?;
-            push_further_numbers(out, others)
-        }
+        values => push_joined(out, values, b','),
     }
 }
 
@@ -115,7 +142,10 @@ pub fn push_items(out: &mut Vec<u8>, items: &Items) -> Result<(), Memory>
     out.push(b'(')?;
     match items {
         Items::Values(values) => push_list(out, values)?,
-        Items::Ints(numbers) => push_numbers(out, numbers.as_slice())?,
+        Items::Ints(numbers) => push_joined(out, numbers.as_slice(), b',')?,
+        Items::Flags(flags) => push_joined(out, flags.as_slice(), b',')?,
+        Items::Bytes(rows) => push_joined(out, rows.as_slice(), b',')?,
+        Items::Units(rows) => push_joined(out, rows.as_slice(), b',')?,
     }
     out.push(b')')?;
     Ok(())

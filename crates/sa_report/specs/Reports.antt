@@ -4,23 +4,13 @@ use Rattle.std.specs.List.{flat_map}
 use Rattle.sa_base.specs.declared.stats.Stats.{Stats}
 use Rattle.sa_lines.specs.Lines.{line}
 use Rattle.sa_plain.specs.declared.items.Items.{Items}
-use Rattle.sa_plain.specs.Written.{list_bytes}
+use Rattle.sa_plain.specs.Written.{hex_bytes, list_bytes}
 use Rattle.sa_call.specs.declared.call.Call.{Call}
 use Rattle.sa_call.specs.declared.operands.Picture.{Picture}
 use Rattle.sa_call.specs.declared.reply.Reply.{Reply}
 use Rattle.sa_call.specs.declared.reply.Reply.TheVariants.{Done, Shown, Sized, Pictured, Refused}
 use Rattle.sa_loop.specs.Histories.{marked_from}
 use Rattle.sa_script.specs.Scripts.{ScriptValue}
-
--- a hexadecimal digit, and a byte as two of them
-abbrev pub hex_digit : ℕ → ℕ
-hex_digit n = if nat_lt n 10 then 48 + n else 87 + n
-
-abbrev pub hex_byte : ℕ → List ℕ
-hex_byte b = hex_digit (b / 16) ∷ hex_digit (b % 16) ∷ []
-
-abbrev pub hex_bytes : List ℕ → List ℕ
-hex_bytes bytes = flat_map hex_byte bytes
 
 -- the bytes of an arena; a dash where it has none
 abbrev pub arena_bytes : List ℕ → List ℕ

@@ -1,10 +1,10 @@
-ghost use Rattle.std.specs.Prelude.{◌≡◌, ◌++◌, ◌∷◌, ◌<◌, OnOk};
-ghost use Rattle.std.specs.List.{flat_map};
-ghost use Rattle.sa_report.specs.Reports.{hex_digit, hex_bytes, arena_bytes, picture_bytes};
+ghost use Rattle.std.specs.Prelude.{◌≡◌, ◌++◌, OnOk};
+ghost use Rattle.sa_report.specs.Reports.{arena_bytes, picture_bytes};
 
 use crate::writing::push_bytes;
 use sa_base::Memory;
 use sa_call::Picture;
+use sa_plain::push_hex;
 
 /// Writes a picture: the slots of its entries and the bytes of its arena, in hexadecimal.
 pub fn push_picture(out: &mut Vec<u8>, picture: &Picture) -> Result<(), Memory>
@@ -27,26 +27,4 @@ fn push_arena(out: &mut Vec<u8>, arena: &[u8]) -> Result<(), Memory>
         return push_bytes(out, b"-");
     }
     push_hex(out, arena)
-}
-
-/// Writes bytes, each as two hexadecimal digits.
-fn push_hex(out: &mut Vec<u8>, bytes: &[u8]) -> Result<(), Memory>
-    ensures { OnOk result (out.new.items ≡ out.old.items ++ hex_bytes bytes.now) }
-{
-    for byte in bytes {
-        push_bytes(out, &[hex_digit(byte / 16), hex_digit(byte % 16)])?;
-    }
-    Ok(())
-}
-
-/// A hexadecimal digit.
-fn hex_digit(digit: u8) -> u8
-    requires { digit < 16 }
-    ensures { result ≡ hex_digit digit }
-{
-    if digit < 10 {
-        b'0' + digit
-    } else {
-        b'a' + (digit - 10)
-    }
 }

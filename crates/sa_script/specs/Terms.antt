@@ -7,7 +7,7 @@ use Rattle.sa_view.specs.declared.view.View.{View}
 use Rattle.sa_text.specs.declared.value.Value.{Value}
 use Rattle.sa_text.specs.declared.value.Value.TheVariants.{Missing, Of}
 use Rattle.sa_plain.specs.declared.items.Items.{Items}
-use Rattle.sa_plain.specs.declared.items.Items.TheVariants.{Values, Ints}
+use Rattle.sa_plain.specs.declared.items.Items.TheVariants.{Values, Ints, Flags, Bytes, Units}
 use Rattle.sa_call.specs.declared.call.Op.{Op}
 use Rattle.sa_call.specs.declared.call.Operand.{Operand}
 use Rattle.sa_call.specs.declared.call.Operand.TheVariants as operand
@@ -138,6 +138,9 @@ values_point (v ∷ w ∷ vs) = None
 abbrev pub fill_of : Items → Option ℕ
 fill_of (Values values) = values_point values
 fill_of (Ints numbers) = None
+fill_of (Flags flags) = None
+fill_of (Bytes rows) = None
+fill_of (Units rows) = None
 
 -- of a fill: it is of another kind than texts, or has a missing value; it is not one text of one code point
 abbrev pub term_miskinded : Term → Bool

@@ -2,7 +2,7 @@ ghost use Rattle.std.specs.Prelude.{◌≡◌, ◌&&◌, not, option_map};
 ghost use Rattle.std.specs.List.{list_any};
 ghost use Rattle.sa_text.specs.Values.{is_missing};
 ghost use Rattle.sa_call.specs.Forms.{is_operand};
-ghost use Rattle.sa_call.specs.Valid.{are_values, has_missing, is_kind, kinds_fit};
+ghost use Rattle.sa_call.specs.Valid.{are_numbers, are_values, has_missing, is_kind, kinds_fit};
 ghost use Rattle.sa_script.specs.Kinds.{kinds_read};
 ghost use Rattle.sa_script.specs.Terms.{fill_of, filled, point_of, value_point, values_point};
 
@@ -58,7 +58,7 @@ fn is_kind(sort: Sort, operand: &Operand) -> bool
         (Sort::Numbers, Operand::View(_)) => false,
         (Sort::Literal, Operand::Literal(items)) => items.values().is_some(),
         (Sort::Texts, Operand::Literal(items)) => are_texts(items),
-        (Sort::Numbers, Operand::Literal(items)) => items.values().is_none(),
+        (Sort::Numbers, Operand::Literal(items)) => are_numbers(items),
         _ => true,
     }
 }
@@ -69,7 +69,17 @@ pub fn are_texts(items: &Items) -> bool
 {
     match items {
         Items::Values(values) => !any_missing(values),
-        Items::Ints(_) => false,
+        Items::Ints(_) | Items::Flags(_) | Items::Bytes(_) | Items::Units(_) => false,
+    }
+}
+
+/// Whether items are numbers.
+fn are_numbers(items: &Items) -> bool
+    ensures { result ≡ are_numbers items.now }
+{
+    match items {
+        Items::Ints(_) => true,
+        Items::Values(_) | Items::Flags(_) | Items::Bytes(_) | Items::Units(_) => false,
     }
 }
 
@@ -101,7 +111,7 @@ pub fn fill_of(items: &Items) -> Option<char>
 {
     match items {
         Items::Values(values) => values_point(values),
-        Items::Ints(_) => None,
+        Items::Ints(_) | Items::Flags(_) | Items::Bytes(_) | Items::Units(_) => None,
     }
 }
 

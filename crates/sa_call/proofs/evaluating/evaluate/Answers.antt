@@ -8,7 +8,7 @@ use Rattle.sa_call.proofs.evaluating.evaluate.Goals as goal
 pub returns-in-Big : goal.returns-in-Big
 returns-in-Big c =
     let heavy = rw c.in-Big.is at c.requires.read in
-    rw c.in-Big.is (λ weights are. c.refused.ensures ∙ big-decide c.args.decls.now c.args.call.now c.in-Big.field-0 weights heavy are.0 are.1)
+    rw c.in-Big.is (λ weights are. c.refused.ensures ∙ big-decide c.args.decls.now c.args.call.now c.in-Big.field-0 weights heavy.1 are.0 are.1)
 
 pub returns-in-Stats : goal.returns-in-Stats
 returns-in-Stats c =

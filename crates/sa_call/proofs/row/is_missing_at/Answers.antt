@@ -1,10 +1,10 @@
 use Rattle.std.proofs.Common.{Some, None, slice_get, leb, sym, ap, ap₂, ◌∙◌}
 use Rattle.std.specs.Option.{option_copied}
-use Rattle.sa_call.proofs.RowLemmas.{missing-of, missing-ints}
+use Rattle.sa_call.proofs.RowLemmas.{missing-of, missing-others}
 use Rattle.sa_call.proofs.row.is_missing_at.Goals as goal
 
 pub returns-in_default : goal.returns-in_default
-returns-in_default c = ap₂ leb c.len.ensures c.place_in.ensures ∙ missing-ints c.args.items.now c.in_default.field-0 c.args.at c.in_default.is
+returns-in_default c = ap₂ leb c.len.ensures c.place_in.ensures ∙ missing-others c.args.items.now c.args.at c.in_default.not-Values
 
 pub returns-in-Some : goal.returns-in-Some
 returns-in-Some c =

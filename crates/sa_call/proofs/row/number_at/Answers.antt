@@ -1,11 +1,11 @@
 use Rattle.std.proofs.Common.{Some, None, slice_get, sym, ap, ◌∙◌, rules, w64}
 use Rattle.std.specs.Option.{option_copied}
 use Rattle.std.proofs.lemmas.Int.{to_z-of_z}
-use Rattle.sa_call.proofs.RowLemmas.{number-of, number-values}
+use Rattle.sa_call.proofs.RowLemmas.{number-of, number-others}
 use Rattle.sa_call.proofs.row.number_at.Goals as goal
 
 pub returns-in_default : goal.returns-in_default
-returns-in_default c = number-values c.args.items.now c.in_default.field-0 c.args.at c.in_default.is
+returns-in_default c = number-others c.args.items.now c.args.at c.in_default.not-Ints
 
 pub returns-in-Some : goal.returns-in-Some
 returns-in-Some c =

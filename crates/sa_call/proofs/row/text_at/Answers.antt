@@ -1,11 +1,11 @@
 use Rattle.std.proofs.Common.{Some, None, slice_get, sym, ap, ◌∙◌}
 use Rattle.std.specs.Option.{option_copied}
 use Rattle.sa_text.specs.declared.value.Value.TheVariants.{Missing, Of}
-use Rattle.sa_call.proofs.RowLemmas.{text-of, text-ints}
+use Rattle.sa_call.proofs.RowLemmas.{text-of, text-others}
 use Rattle.sa_call.proofs.row.text_at.Goals as goal
 
 pub returns-in_default : goal.returns-in_default
-returns-in_default c = text-ints c.args.blank.now c.args.items.now c.in_default.field-0 c.args.at c.in_default.is
+returns-in_default c = text-others c.args.blank.now c.args.items.now c.args.at c.in_default.not-Values
 
 pub returns-in-Some-Of : goal.returns-in-Some-Of
 returns-in-Some-Of c =

@@ -6,7 +6,8 @@ use Rattle.sa_plain.specs.declared.items.Items.{Items}
 use Rattle.sa_call.specs.Decls.{Declared}
 use Rattle.sa_loop.specs.Performs.{CanPut}
 use Rattle.sa_loop.specs.Runs.{layout_in}
-use Rattle.sa_loop.specs.Writes.{layout_written, puts_told, writes_at, writes_told}
+use Rattle.sa_base.specs.Deeds.{writes_at}
+use Rattle.sa_loop.specs.Writes.{layout_written, puts_told, writes_told}
 use Rattle.sa_loop.proofs.HeldLemmas.{lent-layout, put-home, kept-all}
 use Rattle.sa_loop.proofs.performing.put_outcome.Goals as goal
 

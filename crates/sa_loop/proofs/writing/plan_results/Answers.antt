@@ -12,6 +12,7 @@ use Rattle.sa_plain.specs.declared.items.Items.TheVariants.{Values}
 use Rattle.sa_view.specs.Views.{places_of}
 use Rattle.sa_call.specs.Told.{index_at_home}
 use Rattle.sa_loop.specs.Writes.{layout_written, puts_told}
+use Rattle.sa_loop.proofs.ResultLemmas.{results-are}
 use Rattle.sa_loop.proofs.ViewLemmas.{ready, fits-some}
 use Rattle.sa_loop.proofs.StepLemmas.{results-put_all}
 use Rattle.sa_loop.proofs.writing.plan_results.Goals as goal
@@ -22,10 +23,6 @@ ok_map (Err e) f p = tt
 
 pub places-requires : goal.places-requires
 places-requires c = fits-some c.args.decls.now c.args.store.now.contents.layout c.args.out.now c.requires.output
-
--- the values that are planned are the results
-results-are : (count : ℕ) (slice values : List Value) (results : Items) → results ≡ Values values → values ≡ stretched (length values) slice → count_of results ≡ count → stretched count slice ≡ values
-results-are count slice values results same told many = ap (λ n. stretched n slice) (sym many ∙ ap count_of same) ∙ sym told
 
 pub plan-requires : goal.plan-requires
 plan-requires c =

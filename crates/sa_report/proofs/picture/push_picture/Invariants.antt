@@ -1,7 +1,7 @@
 use Rattle.std.proofs.Common.{◌≡◌, ◌++◌, take, ◌∷◌}
 use Rattle.std.specs.List.{flat_map}
 use Rattle.std.proofs.Common.{codes}
-use Rattle.sa_report.specs.Reports.{hex_bytes}
+use Rattle.sa_plain.specs.Written.{hex_bytes}
 use Rattle.sa_report.proofs.picture.push_picture.Given as goal
 
 abbrev pub invariant-loop-entry : goal.invariant-loop-entry

@@ -1,0 +1,10 @@
+pub mod FoldLemmas
+pub mod WriteLemmas
+pub mod DomainLemmas
+pub mod HallLemmas
+pub mod HoldLemmas
+pub mod MoveLemmas
+pub mod FitLemmas
+pub mod LeastLemmas
+pub mod UseLemmas
+pub mod RunLemmas

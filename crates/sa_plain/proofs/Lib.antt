@@ -1,0 +1,3 @@
+pub mod GridLemmas
+pub mod PlainLemmas
+pub mod WeightLemmas
