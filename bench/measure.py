@@ -1,5 +1,6 @@
 """Runs the program on loads of growing size and prints time, memory, and time per byte of script and
-report together; for the loads that are told in calls, per byte of text that the calls copy, make or show."""
+report together; for the loads that are told in calls, per byte of text that the calls copy, make or show; then
+time on one, two and four workers, and how many different histories a hundred runs gave."""
 import os
 import subprocess
 import sys
@@ -111,6 +112,47 @@ MAKING = (("add", making(b'add a "-xyz" into b\n', 10)), ("multiply", making(b"m
           ("rstrip", making(b'rstrip a " " into b\n', 5)))
 
 
+def apart():
+    """8 tasks of 128 calls, each task on a descriptor of its own with 1,024 entries, which every call rewrites
+    with texts of 20 to 219 bytes."""
+    head = b"".join(b"descr d%d nan\n" % d for d in range(8)) + b"".join(b"array a%d d%d str 1024\n" % (d, d) for d in range(8))
+    tasks = []
+    for task in range(8):
+        lines = []
+        for call in range(64):
+            lines.append(b'set a%d "%s"\n' % (task, b"x" * (20 + (call * 37) % 200)))
+            lines.append(b'add a%d "-xyz" into a%d\n' % (task, task))
+        tasks.append(b"task\n" + b"".join(lines))
+    return head + b"".join(tasks) + b"end\n"
+
+
+def across():
+    """8 tasks of 64 calls on two descriptors, each call on both of them."""
+    head = b"descr d nan\ndescr e nan\narray a d str 4\narray b e str 4\n"
+    calls = b'add a "x" into b\n' + b'copy b into a\n' + b'set a ("p","q","r","s")\n' + b'set b "t"\n'
+    return head + (b"task\n" + calls * 16) * 8 + b"end\n"
+
+
+def in_threads(program, script, workers):
+    """The best wall time of five runs on so many workers, and the status."""
+    best = None
+    for _ in range(5):
+        start = time.perf_counter()
+        done = subprocess.run([program, "run", str(workers)], input=script, stdout=subprocess.DEVNULL)
+        wall = time.perf_counter() - start
+        best = wall if best is None else min(best, wall)
+    return best, done.returncode
+
+
+def histories(program, script, workers, runs):
+    """How many different histories so many runs gave."""
+    lines = set()
+    for _ in range(runs):
+        done = subprocess.run([program, "run", str(workers)], input=script, stdout=subprocess.PIPE)
+        lines.add(done.stdout.split(b"\n")[1])
+    return len(lines)
+
+
 def peak_memory(program, script):
     """The program's peak memory in KiB, none where /usr/bin/time is absent. A child that Python itself
     starts begins with Python's own memory, so it is measured by a small process between the two."""
@@ -159,6 +201,14 @@ def main():
             script, moved = make(calls)
             wall, peak, status, _ = run(program, script)
             print(f"{name:<10}{calls:>6}{status:>8}{wall:>9.3f}{wall / moved * 1e9:>11.1f}{shown_memory(peak)}{moved / MIB:>12.2f}")
+    print(f"{'load':<10}{'workers':>8}{'status':>8}{'wall s':>9}{'times as fast':>15}")
+    for name, script in (("apart", apart()), ("across", across())):
+        alone = None
+        for workers in (1, 2, 4):
+            wall, status = in_threads(program, script, workers)
+            alone = alone or wall
+            print(f"{name:<10}{workers:>8}{status:>8}{wall:>9.3f}{alone / wall:>15.2f}")
+    print(f"a hundred runs of `across` on 4 workers gave {histories(program, across(), 4, 100)} different histories")
 
 
 if __name__ == "__main__":

@@ -32,6 +32,12 @@ pub struct Threaded<'s> {
     ghost left: { map (λ d. shown (layouts_of quiet d)) (range_with_len 0 (length decls.now.descrs)) ≡ map (play_world decls.now (map line_call ended.lines)) (range_with_len 0 (length decls.now.descrs)) },
 }
 
+impl Threaded<'_> {
+    /// Frees what was gathered. A caller that lets the run go by itself has to prove the same of each of
+    /// its parts anew.
+    pub fn let_go(self) {}
+}
+
 impl<'s> Gathered for Threaded<'s> {
     ghost use Rattle.std.specs.Prelude.{map};
     ghost use Rattle.sa_loop.specs.OneHistory.{line_pair};

@@ -1,11 +1,11 @@
--- That a run without a fault has the status of its output.
-use Rattle.std.proofs.Common.{◌≡◌, ◌≢◌, ◌⊎◌, ℕ, ◌<◌, ◌≤◌, true, List, ◌++◌, length, Option, Some, None, IfSome, is_some, refl, sym, ap, ◌∙◌, subst, inl, inr, arith, length-append, append-nil}
+-- That a run without a fault has a status that it may have, and what it ended with by the output of its command.
+use Rattle.std.proofs.Common.{◌≡◌, ◌≢◌, ◌⊎◌, ℕ, ◌<◌, ◌≤◌, nat_lt, Bool, true, false, cond, List, [], ◌++◌, length, Option, Some, None, IfSome, refl, sym, ap, ◌∙◌, subst, inl, inr, arith, length-append, append-nil}
 use Rattle.std.specs.Io.KnownBytes.{Consumes, IsAtEnd}
 use Rattle.sa_base.specs.Streams.{Stream}
+use Rattle.std.proofs.lemmas.Bool.{lt-ltb}
 use Rattle.std.proofs.lemmas.Bool.Decides.{nat_tests}
-use Rattle.sa_base.specs.Streams.{StreamGains}
-use Rattle.strarr.specs.Endings.{Ends, Completes, BreaksOff}
-use Rattle.strarr.specs.Outputs.{answer_of, output_for}
+use Rattle.strarr.specs.Endings.{Ends, Completes}
+use Rattle.strarr.specs.Outputs.{GivenBy, MayAnswer, MayGive, answer_of, command_of, output_for, output_of}
 use Rattle.strarr.specs.declared.words.Command.{Command}
 use Rattle.strarr.specs.declared.words.Command.TheVariants as command
 use Rattle.strarr.specs.declared.status.Status.{Status}
@@ -23,44 +23,81 @@ long-input P None new xs p long h = tt
 long-input P (Some a) None xs p long h = absurd p
 long-input P (Some a) (Some b) xs p long h = h a (omega (arith, ap length p, length-append xs b))
 
-pub completes : (output : List ℕ → Status × List ℕ) (source source' sink sink' : Stream) (stat : Status)
-    → ((a : List ℕ) → 4194304 < length a → (output a).0 ≡ status.LongScript)
-    → stat ≢ status.Words → Ends output source source' sink sink' stat → Completes output source source' sink sink' stat
-completes output source source' sink sink' status.Done over other e no_read no_write = whole-input _ source.bytes source'.bytes e.0 e.1.taken.taken e.1.ended (inl (sym e.2))
-completes output source source' sink sink' status.Script over other e no_read no_write = whole-input _ source.bytes source'.bytes e.0 e.1.taken.taken e.1.ended (inl (sym e.2))
-completes output source source' sink sink' status.Words over other e no_read no_write = absurd (other refl)
-completes output source source' sink sink' status.ReadFault over other e no_read no_write = absurd (no_read e.0.3)
-completes output source source' sink sink' status.WriteFault over other e no_read no_write = absurd (no_write e.2.2)
-completes output source source' sink sink' status.NoMemory over other e no_read no_write = no-memory source.bytes
+-- what may be given, by its type
+abbrev pub Given : Type 1
+Given = List ℕ → Status → List ℕ → Type 0
+
+completes : (gives : Given) (source source' sink sink' : Stream) (stat : Status)
+    → ((a : List ℕ) → 4194304 < length a → gives a status.LongScript [])
+    → stat ≢ status.Words → Ends gives source source' sink sink' stat → Completes gives source source' sink sink' stat
+completes gives source source' sink sink' status.Done over other e no_read no_write = whole-input _ source.bytes source'.bytes e.0 e.2.taken.taken e.2.ended (inl (e.1, e.3))
+completes gives source source' sink sink' status.Script over other e no_read no_write = whole-input _ source.bytes source'.bytes e.0 e.2.taken.taken e.2.ended (inl (e.1, e.3))
+completes gives source source' sink sink' status.Words over other e no_read no_write = absurd (other refl)
+completes gives source source' sink sink' status.ReadFault over other e no_read no_write = absurd (no_read e.0.3)
+completes gives source source' sink sink' status.WriteFault over other e no_read no_write = absurd (no_write e.5.2)
+completes gives source source' sink sink' status.NoMemory over other e no_read no_write = no-memory source.bytes
   where
-    no-memory : (old : Option (List ℕ)) → IfSome old (λ input. (status.NoMemory ≡ (output input).0) ⊎ (status.NoMemory ≡ status.NoMemory))
+    no-memory : (old : Option (List ℕ)) → IfSome old (λ input. ((bytes : List ℕ) × gives input status.NoMemory bytes) ⊎ (status.NoMemory ≡ status.NoMemory))
     no-memory None = tt
     no-memory (Some a) = inr refl
-completes output source source' sink sink' status.LongScript over other e no_read no_write =
-    long-input _ source.bytes source'.bytes e.0.0 e.0.1.taken (omega (arith, e.0.2)) (λ a long. inl (sym (over a long)))
+completes gives source source' sink sink' status.LongScript over other e no_read no_write =
+    long-input _ source.bytes source'.bytes e.0.0 e.0.1.taken (omega (arith, e.0.2)) (λ a long. inl ([], over a long))
 
--- the output of a command for an input that is not too long, and for one that is
-pub output-within : (c : Option Command) (input : List ℕ) → is_some c ≡ true → length input ≤ 4194304 → output_for c input ≡ answer_of input
-output-within None input some few = absurd (cc)
-output-within (Some command.Serial) input some few = grind (arith, nat_tests)
+-- what ended by the answer to an input that is not too long ended by the output for it
+ends-within : (gives given : Given) (source source' sink sink' : Stream) (stat : Status)
+    → ((input : List ℕ) (s : Status) (bytes : List ℕ) → length input ≤ 4194304 → gives input s bytes → given input s bytes)
+    → Ends gives source source' sink sink' stat → Ends given source source' sink sink' stat
+ends-within gives given source source' sink sink' status.Done more e = (e.0, e.1, e.2, more e.0 status.Done e.1 e.2.limit e.3, e.4)
+ends-within gives given source source' sink sink' status.Script more e = (e.0, e.1, e.2, more e.0 status.Script e.1 e.2.limit e.3, e.4)
+ends-within gives given source source' sink sink' status.Words more e = e
+ends-within gives given source source' sink sink' status.ReadFault more e = e
+ends-within gives given source source' sink sink' status.WriteFault more e = (e.0, e.1, e.2, e.3, more e.0 e.1 e.2 e.3.limit e.4, e.5)
+ends-within gives given source source' sink sink' status.NoMemory more e = e
+ends-within gives given source source' sink sink' status.LongScript more e = e
 
-pub output-over : (c : Option Command) → is_some c ≡ true → (a : List ℕ) → 4194304 < length a → (output_for c a).0 ≡ status.LongScript
-output-over None some a long = absurd (cc)
-output-over (Some command.Serial) some a long = grind (arith, nat_tests)
+-- the output of `serial` for an input that is not too long, and for one that is
+output-within : (input : List ℕ) → length input ≤ 4194304 → output_for (Some command.Serial) input ≡ answer_of input
+output-within input few = grind (arith, nat_tests)
 
--- what ended by the answer to an input ended by the output of the command
-pub ends-by-output : (c : Option Command) (source source' sink sink' : Stream) (stat : Status) → is_some c ≡ true
-    → Ends answer_of source source' sink sink' stat → Ends (output_for c) source source' sink sink' stat
-ends-by-output c source source' sink sink' status.Done some e =
-    let same = output-within c e.0 some e.1.limit in
-    (e.0, e.1, ap (λ (o : Status × List ℕ). o.0) same ∙ e.2, subst (λ (o : Status × List ℕ). StreamGains sink sink' o.1) (sym same) e.3)
-ends-by-output c source source' sink sink' status.Script some e =
-    let same = output-within c e.0 some e.1.limit in
-    (e.0, e.1, ap (λ (o : Status × List ℕ). o.0) same ∙ e.2, subst (λ (o : Status × List ℕ). StreamGains sink sink' o.1) (sym same) e.3)
-ends-by-output c source source' sink sink' status.Words some e = e
-ends-by-output c source source' sink sink' status.ReadFault some e = e
-ends-by-output c source source' sink sink' status.WriteFault some e =
-    let same = output-within c e.0 some e.1.limit in
-    (e.0, e.1, subst (λ (o : Status × List ℕ). BreaksOff sink sink' o.1) (sym same) e.2)
-ends-by-output c source source' sink sink' status.NoMemory some e = e
-ends-by-output c source source' sink sink' status.LongScript some e = e
+serial-within : (input : List ℕ) (stat : Status) (bytes : List ℕ) → length input ≤ 4194304 → GivenBy answer_of input stat bytes → GivenBy (output_for (Some command.Serial)) input stat bytes
+serial-within input stat bytes few given = given ∙ sym (output-within input few)
+
+serial-over : (input : List ℕ) → 4194304 < length input → GivenBy (output_for (Some command.Serial)) input status.LongScript []
+serial-over input long = go (nat_lt 4194304 (length input)) (lt-ltb 4194304 (length input) long)
+  where
+    go : (b : Bool) → b ≡ true → (status.LongScript, []) ≡ cond b (status.LongScript, []) (answer_of input)
+    go true is = refl
+    go false is = absurd (cc)
+
+-- the output of a run in threads for an input that is not too long, and for one that is
+run-within : (n : ℕ) (input : List ℕ) (stat : Status) (bytes : List ℕ) → length input ≤ 4194304 → MayAnswer input stat bytes → MayGive (Some (command.Run n)) input stat bytes
+run-within n input stat bytes few may = inr (few, may)
+
+run-over : (n : ℕ) (a : List ℕ) → 4194304 < length a → MayGive (Some (command.Run n)) a status.LongScript []
+run-over n a long = inl (record { long = long; status_is = refl; nothing = refl })
+
+-- what the answer to an input makes of the output of its command
+
+pub still-ends : (words : List (List ℕ)) (source source' sink sink' : Stream) (stat : Status) → command_of words ≡ Some command.Serial
+    → Ends (GivenBy answer_of) source source' sink sink' stat → Ends (GivenBy (output_of words)) source source' sink sink' stat
+still-ends words source source' sink sink' stat is e =
+    subst (λ (c : Option Command). Ends (GivenBy (output_for c)) source source' sink sink' stat) (sym is) (ends-within (GivenBy answer_of) (GivenBy (output_for (Some command.Serial))) source source' sink sink' stat serial-within e)
+
+pub still-completes : (words : List (List ℕ)) (source source' sink sink' : Stream) (stat : Status) → command_of words ≡ Some command.Serial → stat ≢ status.Words
+    → Ends (GivenBy answer_of) source source' sink sink' stat → Completes (GivenBy (output_of words)) source source' sink sink' stat
+still-completes words source source' sink sink' stat is other e =
+    completes (GivenBy (output_of words)) source source' sink sink' stat
+    (subst (λ (c : Option Command). (input : List ℕ) → 4194304 < length input → GivenBy (output_for c) input status.LongScript []) (sym is) serial-over)
+    other (still-ends words source source' sink sink' stat is e)
+
+pub run-ends : (words : List (List ℕ)) (n : ℕ) (source source' sink sink' : Stream) (stat : Status) → command_of words ≡ Some (command.Run n)
+    → Ends MayAnswer source source' sink sink' stat → Ends (MayGive (command_of words)) source source' sink sink' stat
+run-ends words n source source' sink sink' stat is e =
+    subst (λ (c : Option Command). Ends (MayGive c) source source' sink sink' stat) (sym is) (ends-within MayAnswer (MayGive (Some (command.Run n))) source source' sink sink' stat (run-within n) e)
+
+pub run-completes : (words : List (List ℕ)) (n : ℕ) (source source' sink sink' : Stream) (stat : Status) → command_of words ≡ Some (command.Run n) → stat ≢ status.Words
+    → Ends MayAnswer source source' sink sink' stat → Completes (MayGive (command_of words)) source source' sink sink' stat
+run-completes words n source source' sink sink' stat is other e =
+    completes (MayGive (command_of words)) source source' sink sink' stat
+    (subst (λ (c : Option Command). (input : List ℕ) → 4194304 < length input → MayGive c input status.LongScript []) (sym is) (run-over n))
+    other (run-ends words n source source' sink sink' stat is e)

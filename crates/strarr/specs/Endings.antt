@@ -2,7 +2,7 @@
 use Rattle.std.specs.Prelude.{◌≡◌, ◌⊎◌, ℕ, ◌+◌, ◌≤◌, List, length, take, IfSome, Result, MatchResult}
 use Rattle.std.specs.Io.KnownBytes.{Appends, Consumes, IsAtEnd}
 use Rattle.sa_base.specs.Streams.{Stream, Rose, StreamTakes, StreamGains}
-use Rattle.strarr.specs.Outputs.{answer_of, most_script_bytes}
+use Rattle.strarr.specs.Outputs.{most_script_bytes}
 use Rattle.strarr.specs.declared.status.Status.{Status}
 use Rattle.strarr.specs.declared.status.Status.TheVariants as status
 
@@ -26,32 +26,30 @@ StopsBehind n source source' status.WriteFault = ⊥
 abbrev pub BreaksOff : Stream → Stream → List ℕ → Type 0
 BreaksOff sink sink' bytes = (count : ℕ) × Appends sink.bytes sink'.bytes (take count bytes) × Rose sink.faults sink'.faults
 
--- the whole input was read, its output has this status, and the output's bytes were written
-abbrev pub Answers : (List ℕ → Status × List ℕ) → Status → Stream → Stream → Stream → Stream → Type 0
-Answers output stat source source' sink sink' = (input : List ℕ) × ReadsWhole source source' input × ((output input).0 ≡ stat) × StreamGains sink sink' (output input).1
+-- the whole input was read, and bytes that may be its output with this status were written
+abbrev pub Answers : (List ℕ → Status → List ℕ → Type 0) → Status → Stream → Stream → Stream → Stream → Type 0
+Answers gives stat source source' sink sink' = (input : List ℕ) × (bytes : List ℕ) × ReadsWhole source source' input × gives input stat bytes × StreamGains sink sink' bytes
 
--- What was read and written, by the status, for a program whose output for an input is a status and bytes.
-abbrev pub Ends : (List ℕ → Status × List ℕ) → Stream → Stream → Stream → Stream → Status → Type 0
-Ends output source source' sink sink' status.Done = Answers output status.Done source source' sink sink'
-Ends output source source' sink sink' status.Words = (source' ≡ source) × (sink' ≡ sink)
-Ends output source source' sink sink' status.Script = Answers output status.Script source source' sink sink'
-Ends output source source' sink sink' status.ReadFault = StopsBehind 0 source source' status.ReadFault × (sink' ≡ sink)
-Ends output source source' sink sink' status.WriteFault = (input : List ℕ) × ReadsWhole source source' input × BreaksOff sink sink' (output input).1
-Ends output source source' sink sink' status.NoMemory = StopsBehind 0 source source' status.NoMemory × (sink' ≡ sink)
-Ends output source source' sink sink' status.LongScript = StopsBehind 0 source source' status.LongScript × (sink' ≡ sink)
+-- What was read and written, by the status, for a program of which it is told which statuses and bytes it may give for an input.
+abbrev pub Ends : (List ℕ → Status → List ℕ → Type 0) → Stream → Stream → Stream → Stream → Status → Type 0
+Ends gives source source' sink sink' status.Done = Answers gives status.Done source source' sink sink'
+Ends gives source source' sink sink' status.Words = (source' ≡ source) × (sink' ≡ sink)
+Ends gives source source' sink sink' status.Script = Answers gives status.Script source source' sink sink'
+Ends gives source source' sink sink' status.ReadFault = StopsBehind 0 source source' status.ReadFault × (sink' ≡ sink)
+Ends gives source source' sink sink' status.WriteFault = (input : List ℕ) × (stat : Status) × (bytes : List ℕ) × ReadsWhole source source' input × gives input stat bytes × BreaksOff sink sink' bytes
+Ends gives source source' sink sink' status.NoMemory = StopsBehind 0 source source' status.NoMemory × (sink' ≡ sink)
+Ends gives source source' sink sink' status.LongScript = StopsBehind 0 source source' status.LongScript × (sink' ≡ sink)
 
--- Where no count of faults rose, the status is the output's, or there was no memory.
-abbrev pub Completes : (List ℕ → Status × List ℕ) → Stream → Stream → Stream → Stream → Status → Type 0
-Completes output source source' sink sink' stat =
+-- Where no count of faults rose, the status is one that the program may give for the input, or there was no memory.
+abbrev pub Completes : (List ℕ → Status → List ℕ → Type 0) → Stream → Stream → Stream → Stream → Status → Type 0
+Completes gives source source' sink sink' stat =
     (Rose source.faults source'.faults → ⊥) → (Rose sink.faults sink'.faults → ⊥)
-    → IfSome source.bytes (λ input. (stat ≡ (output input).0) ⊎ (stat ≡ status.NoMemory))
+    → IfSome source.bytes (λ input. ((bytes : List ℕ) × gives input stat bytes) ⊎ (stat ≡ status.NoMemory))
 
 -- what writing bytes gives: they were written, or a write failed
 abbrev pub OutputWritten : Stream → Stream → List ℕ → Result (Unit {0}) Status → Type 0
 OutputWritten sink sink' bytes written = MatchResult written (λ _. StreamGains sink sink' bytes) (λ stat. (stat ≡ status.WriteFault) × BreaksOff sink sink' bytes)
 
--- what answering an input wrote: its output, with the status of the definition; a front of it; or nothing
-abbrev pub Responds : List ℕ → Stream → Stream → Result Status Status → Type 0
-Responds input sink sink' response = MatchResult response
-    (λ stat. ((answer_of input).0 ≡ stat) × StreamGains sink sink' (answer_of input).1)
-    (λ stat. ((stat ≡ status.WriteFault) × BreaksOff sink sink' (answer_of input).1) ⊎ ((stat ≡ status.NoMemory) × (sink' ≡ sink)))
+-- what writing an answer gives: its status, or what a failed write left
+abbrev pub Responds : Status × List ℕ → Stream → Stream → Result Status Status → Type 0
+Responds answer sink sink' response = MatchResult response (λ stat. (stat ≡ answer.0) × StreamGains sink sink' answer.1) (λ stat. (stat ≡ status.WriteFault) × BreaksOff sink sink' answer.1)

@@ -1,5 +1,5 @@
 //! The program: `strarr serial` reads a script from standard input, performs it on one thread and
-//! writes its report to standard output.
+//! writes its report to standard output; `strarr run N` performs its tasks on N workers.
 #![tactic(auto)]
 
 mod status;
@@ -7,16 +7,20 @@ mod streams;
 mod top;
 mod words;
 
-use sa_base::{StdSink, StdSource};
+use sa_base::{FreeGate, StdSink, StdSource};
 pub use status::Status;
 use std::env;
 use std::io::ErrorKind;
 use std::process::ExitCode;
-pub use top::run_still;
+pub use top::{run, run_still};
 pub use words::{Command, read_words, words_after_name};
 
 #[cfg(test)]
+mod replay;
+#[cfg(test)]
 mod tests;
+#[cfg(test)]
+mod thread_tests;
 
 /// The exit number where the system does not give a word.
 const NO_WORD: u8 = 10;
@@ -43,6 +47,13 @@ fn main(rt: HostRuntime) -> ExitCode {
     };
     let mut source = StdSource::new(rt.stdin());
     let mut sink = StdSink::new(rt.stdout());
-    let status = run_still(rt.alloc(), words.as_slice(), &mut source, &mut sink);
+    let status = run(
+        &rt,
+        rt.alloc(),
+        words.as_slice(),
+        &mut source,
+        &mut sink,
+        &FreeGate,
+    );
     ExitCode::from(status.number())
 }

@@ -1,0 +1,301 @@
+//! Tests of runs in threads.
+ghost use Rattle.std.specs.Prelude.{◌≤◌};
+
+use super::*;
+use crate::replay::{Tasks, order_of, script_of, told_anew, told_by};
+use sa_base::{Gate, MemSink, MemSource, Memory};
+use std::alloc::Global;
+use std::sync::Wait;
+use std::sync::atomic::{AtomicU64, Ordering};
+use std::test::Fail;
+use std::thread;
+use std::thread::Threads;
+
+/// The most turns that a call waits inside a gate.
+const TURNS: u32 = 10_000_000;
+
+/// What the program answers and writes for these words and this input.
+fn outcome<R: Threads + Wait + Sync, G: Gate + Sync>(
+    rt: &R,
+    alloc: Global,
+    words: &[&str],
+    input: &[u8],
+    gate: &G,
+) -> Result<(Status, Vec<u8>), Memory> {
+    let mut list = Vec::new(alloc);
+    for word in words {
+        list.push(String::from_str(alloc, word)?)?;
+    }
+    let bytes = Vec::from_slice(alloc, input)?;
+    let mut source = MemSource::new(bytes, 65_536, Vec::new(alloc));
+    let mut sink = MemSink::new(alloc, 4_194_304, 65_536, Vec::new(alloc))?;
+    let status = run(rt, alloc, list.as_slice(), &mut source, &mut sink, gate);
+    let written = Vec::from_slice(alloc, sink.bytes())?;
+    Ok((status, written))
+}
+
+/// What the program answers and writes with so many workers.
+fn by_workers<R: Threads + Wait + Sync>(
+    rt: &R,
+    alloc: Global,
+    workers: &str,
+    input: &[u8],
+) -> Result<(Status, Vec<u8>), Memory> {
+    outcome(rt, alloc, &["run", workers], input, &FreeGate)
+}
+
+#[test]
+fn a_number_of_workers_has_one_to_five_digits(rt: HostRuntime) -> Result<(), Fail> {
+    let report = b"report 1\nhistory\nmarked\nend\n".as_slice();
+    for workers in ["1", "2", "02", "16", "00016"] {
+        let (status, written) = by_workers(&rt, rt.alloc(), workers, b"end\n")?;
+        assert_eq!(rt; status, Status::Done, "at {workers}");
+        assert_eq!(rt; written.as_slice(), report, "at {workers}");
+    }
+    for workers in ["0", "17", "+2", "-2", "", "2x", "000016", "65537"] {
+        let (status, written) = by_workers(&rt, rt.alloc(), workers, b"end\n")?;
+        assert_eq!(rt; status, Status::Words, "at {workers}");
+        assert_eq!(rt; written.len(), 0, "at {workers}");
+    }
+    Ok(())
+}
+
+#[test]
+fn other_words_are_those_of_the_run_that_waits_for_nobody(rt: HostRuntime) -> Result<(), Fail> {
+    let alloc = rt.alloc();
+    let (status, written) = outcome(&rt, alloc, &["serial"], b"foo\n", &FreeGate)?;
+    assert_eq!(rt; status, Status::Script);
+    assert_eq!(rt; written.as_slice(), b"fault 2 line 1\n".as_slice());
+    let (status, written) = outcome(&rt, alloc, &["run"], b"end\n", &FreeGate)?;
+    assert_eq!(rt; status, Status::Words);
+    assert_eq!(rt; written.len(), 0);
+    let (status, written) = by_workers(&rt, alloc, "3", b"end\nend\n")?;
+    assert_eq!(rt; status, Status::Script);
+    assert_eq!(rt; written.as_slice(), b"fault 3 line 2\n".as_slice());
+    Ok(())
+}
+
+/// A gate that holds calls inside until others were inside. A call has a bit of its own.
+#[derive(Drop)]
+struct Meeting {
+    /// The bits of the calls that were inside.
+    inside: AtomicU64,
+    /// How many calls waited in vain.
+    vain: AtomicU64,
+    /// Whether the calls are those of two tasks that share a descriptor and of one that does not.
+    shared: bool,
+}
+
+/// The bit of a call.
+fn bit(task: u32, call: u32) -> u64 {
+    match (task, call) {
+        (0, 0) => 1,
+        (1, 0) => 2,
+        (1, 1) => 4,
+        (2, 0) => 8,
+        (2, 1) => 16,
+        _ => 0,
+    }
+}
+
+impl Meeting {
+    /// A gate in which no call was yet.
+    fn new(shared: bool) -> Meeting {
+        Meeting {
+            inside: AtomicU64::new(0),
+            vain: AtomicU64::new(0),
+            shared,
+        }
+    }
+
+    /// The calls of which a call waits for one, where these were inside before it.
+    fn awaited(&self, task: u32, call: u32, before: u64) -> u64 {
+        match (self.shared, task, call) {
+            (false, 0, 0) => bit(1, 1),
+            (false, 1, 0) => bit(0, 0),
+            (true, 2, 0) => bit(0, 0) | bit(1, 0),
+            (true, 0, 0) if before & bit(1, 0) == 0 => bit(2, 1),
+            (true, 1, 0) if before & bit(0, 0) == 0 => bit(2, 1),
+            _ => 0,
+        }
+    }
+
+    /// Waits until one of some calls was inside. Whether it came.
+    fn wait(&self, some: u64) -> bool {
+        'turns: for _ in 0..TURNS {
+            if self.inside.load(Ordering::SeqCst) & some != 0 {
+                return true;
+            }
+            thread::yield_now();
+        }
+        false
+    }
+}
+
+impl Gate for Meeting {
+    fn inside(&self, task: u32, call: u32) {
+        let before = self.inside.fetch_or(bit(task, call), Ordering::SeqCst);
+        let some = self.awaited(task, call, before);
+        if some != 0 && !self.wait(some) {
+            self.vain.fetch_add(1, Ordering::SeqCst);
+        }
+    }
+}
+
+/// Where a call stands in a report's history; behind all where it does not.
+fn place_of(order: &[(usize, usize)], task: usize, call: usize) -> usize {
+    match order.iter().position(|pair| *pair == (task, call)) {
+        Some(at) => at,
+        None => order.len(),
+    }
+}
+
+/// What came of a run by a gate that holds calls inside: its status, its order, and how many calls waited
+/// in vain.
+fn met<R: Threads + Wait + Sync>(
+    rt: &R,
+    alloc: Global,
+    shared: bool,
+    workers: &str,
+    script: &[u8],
+) -> Result<(Status, Vec<(usize, usize)>, u64), Memory> {
+    let gate = Meeting::new(shared);
+    let (status, written) = outcome(rt, alloc, &["run", workers], script, &gate)?;
+    let order = order_of(alloc, written.as_slice())?;
+    Ok((status, order, gate.vain.load(Ordering::SeqCst)))
+}
+
+/// Each of two tasks waits inside for a call of the other.
+const APART: &[u8] = b"descr d nan
+descr e nan
+array x d str 1
+array y e str 1
+task
+set x \"a\"
+task
+set y \"b\"
+set y \"c\"
+end
+";
+
+/// Two tasks share a descriptor, and a third waits inside for one of them, and one of them for it.
+const BESIDE: &[u8] = b"descr d nan
+descr e nan
+array x d str 1
+array y e str 1
+task
+set x \"a\"
+task
+set x \"b\"
+task
+set y \"c\"
+set y \"d\"
+end
+";
+
+#[test]
+fn calls_on_two_descriptors_are_inside_at_once(rt: HostRuntime) -> Result<(), Fail> {
+    let alloc = rt.alloc();
+    let (status, order, vain) = met(&rt, alloc, false, "2", APART)?;
+    assert_eq!(rt; status, Status::Done);
+    assert_eq!(rt; vain, 0);
+    assert_eq!(rt; order.len(), 3);
+    assert!(rt; place_of(order.as_slice(), 1, 0) < place_of(order.as_slice(), 0, 0));
+    Ok(())
+}
+
+#[test]
+fn tasks_that_share_a_descriptor_run_beside_one_that_does_not(rt: HostRuntime) -> Result<(), Fail> {
+    let alloc = rt.alloc();
+    let (status, order, vain) = met(&rt, alloc, true, "3", BESIDE)?;
+    let of_third = place_of(order.as_slice(), 2, 0);
+    assert_eq!(rt; status, Status::Done);
+    assert_eq!(rt; vain, 0);
+    assert_eq!(rt; order.len(), 4);
+    assert!(rt; of_third < place_of(order.as_slice(), 0, 0));
+    assert!(rt; of_third < place_of(order.as_slice(), 1, 0));
+    Ok(())
+}
+
+/// Two arrays of two descriptors.
+const TWO: &[u8] = b"descr d nan
+descr e nan
+array a d str 2
+array b e str 2
+";
+
+/// Two tasks of so many calls, each of which adds across the descriptors.
+fn adding_across<'a>(alloc: Global, count: usize) -> Result<Tasks<'a>, Memory> {
+    let mut first = Vec::new(alloc);
+    let mut second = Vec::new(alloc);
+    for _ in 0..count {
+        first.push(b"add b \"1\" into a".as_slice())?;
+        second.push(b"add a \"2\" into b".as_slice())?;
+    }
+    let mut tasks = Vec::new(alloc);
+    tasks.push(first)?;
+    tasks.push(second)?;
+    Ok(Tasks { head: TWO, tasks })
+}
+
+/// The calls of a task.
+fn calls_of<'a>(alloc: Global, lines: &[&'a [u8]]) -> Result<Vec<&'a [u8]>, Memory> {
+    let mut all = Vec::new(alloc);
+    for line in lines {
+        all.push(*line)?;
+    }
+    Ok(all)
+}
+
+/// Four tasks, of which each call is on one or on both descriptors, and three show what they find.
+fn showing<'a>(alloc: Global) -> Result<Tasks<'a>, Memory> {
+    let first: [&'a [u8]; 3] = [b"set a \"x\"", b"add b \"1\" into a", b"add a b into b"];
+    let second: [&'a [u8]; 3] = [b"set b \"y\"", b"add a \"2\" into b", b"add b a into a"];
+    let third: [&'a [u8]; 3] = [b"show a", b"add a b into a", b"show b"];
+    let fourth: [&'a [u8]; 3] = [b"show b", b"stats e", b"show a"];
+    let mut tasks = Vec::new(alloc);
+    tasks.push(calls_of(alloc, &first)?)?;
+    tasks.push(calls_of(alloc, &second)?)?;
+    tasks.push(calls_of(alloc, &third)?)?;
+    tasks.push(calls_of(alloc, &fourth)?)?;
+    Ok(Tasks { head: TWO, tasks })
+}
+
+/// That so many workers do all calls, mark none, and tell what their own order gives.
+fn are_a_play<R: Threads + Wait + Sync>(
+    rt: &R,
+    alloc: Global,
+    tasks: &Tasks<'_>,
+    workers: &str,
+    count: usize,
+) -> Result<bool, Memory> {
+    let script = script_of(alloc, tasks)?;
+    let (status, written) = by_workers(rt, alloc, workers, script.as_slice())?;
+    let order = order_of(alloc, written.as_slice())?;
+    let told = told_by(alloc, written.as_slice())?;
+    let anew = told_anew(alloc, tasks, written.as_slice())?;
+    Ok(status == Status::Done && order.len() == count && told.as_slice() == anew.as_slice())
+}
+
+#[test]
+fn a_thousand_calls_across_two_descriptors_are_a_play(rt: HostRuntime) -> Result<(), Fail> {
+    let tasks = adding_across(rt.alloc(), 500)?;
+    assert!(rt; are_a_play(&rt, rt.alloc(), &tasks, "4", 1_000)?);
+    Ok(())
+}
+
+#[test]
+fn runs_by_one_to_sixteen_workers_are_plays(rt: HostRuntime) -> Result<(), Fail> {
+    let tasks = showing(rt.alloc())?;
+    let workers = [
+        "1", "2", "3", "4", "5", "6", "7", "8", "9", "10", "11", "12", "13", "14", "15", "16", "2",
+        "3", "4", "16",
+    ];
+    for number in workers {
+        assert!(rt;
+            are_a_play(&rt, rt.alloc(), &tasks, number, 12)?,
+            "at {number}"
+        );
+    }
+    Ok(())
+}
