@@ -80,7 +80,9 @@ fn by_workers<R: Threads + Wait + Sync>(
     requires { 1 ≤ workers }
 {
     let run = run_tasks(rt, alloc, script, workers, &FreeGate)?;
-    told(alloc, &run)
+    let told = told(alloc, &run);
+    run.let_go();
+    told
 }
 
 #[test]
