@@ -98,6 +98,17 @@ pub fn order_of(alloc: Global, report: &[u8]) -> Result<Vec<(usize, usize)>, Mem
     Ok(all)
 }
 
+/// Whether a report's third line names no marked call.
+pub fn is_without_marks(report: &[u8]) -> bool {
+    let mut rest = report;
+    'lines: for _ in 0..2u8 {
+        if !rest.is_empty() {
+            rest = cut_line(rest).1;
+        }
+    }
+    !rest.is_empty() && is_word(b"marked", cut_line(rest).0)
+}
+
 /// The lines of a report's replies.
 fn replies_of(alloc: Global, report: &[u8]) -> Result<Vec<ReplyLine<'_>>, Memory> {
     let mut all = Vec::new(alloc);

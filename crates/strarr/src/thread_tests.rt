@@ -2,7 +2,7 @@
 ghost use Rattle.std.specs.Prelude.{◌≤◌};
 
 use super::*;
-use crate::replay::{Tasks, order_of, script_of, told_anew, told_by};
+use crate::replay::{Tasks, is_without_marks, order_of, script_of, told_anew, told_by};
 use sa_base::{Gate, MemSink, MemSource, Memory};
 use std::alloc::Global;
 use std::sync::Wait;
@@ -11,8 +11,11 @@ use std::test::Fail;
 use std::thread;
 use std::thread::Threads;
 
-/// The most turns that a call waits inside a gate.
+/// The most turns that a call waits inside a gate for one that comes.
 const TURNS: u32 = 10_000_000;
+
+/// The turns that a call waits for one that cannot come.
+const FEW_TURNS: u32 = 1_000;
 
 /// What the program answers and writes for these words and this input.
 fn outcome<R: Threads + Wait + Sync, G: Gate + Sync>(
@@ -75,6 +78,17 @@ fn other_words_are_those_of_the_run_that_waits_for_nobody(rt: HostRuntime) -> Re
     Ok(())
 }
 
+/// Which calls a gate holds inside until others were.
+#[derive(Clone, Copy, Debug, PartialEq, Eq)]
+enum Held {
+    /// The first calls of two tasks, each until a call of the other.
+    Apart,
+    /// The first call of a third task until one of two, and the first of these until its second.
+    Beside,
+    /// The first call of a task until that of another, which has the same lock.
+    Same,
+}
+
 /// A gate that holds calls inside until others were inside. A call has a bit of its own.
 #[derive(Drop)]
 struct Meeting {
@@ -82,8 +96,9 @@ struct Meeting {
     inside: AtomicU64,
     /// How many calls waited in vain.
     vain: AtomicU64,
-    /// Whether the calls are those of two tasks that share a descriptor and of one that does not.
-    shared: bool,
+    held: Held,
+    /// The most turns that a call waits.
+    turns: u32,
 }
 
 /// The bit of a call.
@@ -100,29 +115,32 @@ fn bit(task: u32, call: u32) -> u64 {
 
 impl Meeting {
     /// A gate in which no call was yet.
-    fn new(shared: bool) -> Meeting {
+    fn new(held: Held, turns: u32) -> Meeting {
         Meeting {
             inside: AtomicU64::new(0),
             vain: AtomicU64::new(0),
-            shared,
+            held,
+            turns,
         }
     }
 
     /// The calls of which a call waits for one, where these were inside before it.
     fn awaited(&self, task: u32, call: u32, before: u64) -> u64 {
-        match (self.shared, task, call) {
-            (false, 0, 0) => bit(1, 1),
-            (false, 1, 0) => bit(0, 0),
-            (true, 2, 0) => bit(0, 0) | bit(1, 0),
-            (true, 0, 0) if before & bit(1, 0) == 0 => bit(2, 1),
-            (true, 1, 0) if before & bit(0, 0) == 0 => bit(2, 1),
+        match (self.held, task, call) {
+            (Held::Apart, 0, 0) => bit(1, 1),
+            (Held::Apart, 1, 0) => bit(0, 0),
+            (Held::Beside, 2, 0) => bit(0, 0) | bit(1, 0),
+            (Held::Beside, 0, 0) if before & bit(1, 0) == 0 => bit(2, 1),
+            (Held::Beside, 1, 0) if before & bit(0, 0) == 0 => bit(2, 1),
+            (Held::Same, 0, 0) => bit(1, 0),
+            (Held::Same, 1, 0) => bit(0, 0),
             _ => 0,
         }
     }
 
     /// Waits until one of some calls was inside. Whether it came.
     fn wait(&self, some: u64) -> bool {
-        'turns: for _ in 0..TURNS {
+        'turns: for _ in 0..self.turns {
             if self.inside.load(Ordering::SeqCst) & some != 0 {
                 return true;
             }
@@ -150,19 +168,34 @@ fn place_of(order: &[(usize, usize)], task: usize, call: usize) -> usize {
     }
 }
 
-/// What came of a run by a gate that holds calls inside: its status, its order, and how many calls waited
-/// in vain.
-fn met<R: Threads + Wait + Sync>(
+/// What came of a run by a gate that holds calls inside.
+#[derive(Drop)]
+struct Met {
+    status: Status,
+    order: Vec<(usize, usize)>,
+    /// The bits of the calls that were inside.
+    inside: u64,
+    /// How many calls waited in vain.
+    vain: u64,
+}
+
+/// Runs a script by a gate that holds calls inside for so many turns at most.
+fn run_by_gate<R: Threads + Wait + Sync>(
     rt: &R,
     alloc: Global,
-    shared: bool,
+    held: Held,
+    turns: u32,
     workers: &str,
     script: &[u8],
-) -> Result<(Status, Vec<(usize, usize)>, u64), Memory> {
-    let gate = Meeting::new(shared);
+) -> Result<Met, Memory> {
+    let gate = Meeting::new(held, turns);
     let (status, written) = outcome(rt, alloc, &["run", workers], script, &gate)?;
-    let order = order_of(alloc, written.as_slice())?;
-    Ok((status, order, gate.vain.load(Ordering::SeqCst)))
+    Ok(Met {
+        status,
+        order: order_of(alloc, written.as_slice())?,
+        inside: gate.inside.load(Ordering::SeqCst),
+        vain: gate.vain.load(Ordering::SeqCst),
+    })
 }
 
 /// Each of two tasks waits inside for a call of the other.
@@ -193,27 +226,56 @@ set y \"d\"
 end
 ";
 
+/// Two tasks have a call each on one descriptor.
+const SAME: &[u8] = b"descr d nan
+array x d str 1
+task
+set x \"a\"
+task
+set x \"b\"
+end
+";
+
 #[test]
 fn calls_on_two_descriptors_are_inside_at_once(rt: HostRuntime) -> Result<(), Fail> {
-    let alloc = rt.alloc();
-    let (status, order, vain) = met(&rt, alloc, false, "2", APART)?;
-    assert_eq!(rt; status, Status::Done);
-    assert_eq!(rt; vain, 0);
-    assert_eq!(rt; order.len(), 3);
-    assert!(rt; place_of(order.as_slice(), 1, 0) < place_of(order.as_slice(), 0, 0));
+    let met = run_by_gate(&rt, rt.alloc(), Held::Apart, TURNS, "2", APART)?;
+    assert_eq!(rt; met.status, Status::Done);
+    assert_eq!(rt; met.inside, 7);
+    assert_eq!(rt; met.vain, 0);
+    assert_eq!(rt; met.order.len(), 3);
+    assert!(rt; place_of(met.order.as_slice(), 1, 0) < place_of(met.order.as_slice(), 0, 0));
     Ok(())
 }
 
 #[test]
 fn tasks_that_share_a_descriptor_run_beside_one_that_does_not(rt: HostRuntime) -> Result<(), Fail> {
-    let alloc = rt.alloc();
-    let (status, order, vain) = met(&rt, alloc, true, "3", BESIDE)?;
-    let of_third = place_of(order.as_slice(), 2, 0);
-    assert_eq!(rt; status, Status::Done);
-    assert_eq!(rt; vain, 0);
-    assert_eq!(rt; order.len(), 4);
-    assert!(rt; of_third < place_of(order.as_slice(), 0, 0));
-    assert!(rt; of_third < place_of(order.as_slice(), 1, 0));
+    let met = run_by_gate(&rt, rt.alloc(), Held::Beside, TURNS, "3", BESIDE)?;
+    let of_third = place_of(met.order.as_slice(), 2, 0);
+    assert_eq!(rt; met.status, Status::Done);
+    assert_eq!(rt; met.inside, 27);
+    assert_eq!(rt; met.vain, 0);
+    assert_eq!(rt; met.order.len(), 4);
+    assert!(rt; of_third < place_of(met.order.as_slice(), 0, 0));
+    assert!(rt; of_third < place_of(met.order.as_slice(), 1, 0));
+    Ok(())
+}
+
+#[test]
+fn calls_on_one_descriptor_are_never_inside_at_once(rt: HostRuntime) -> Result<(), Fail> {
+    let met = run_by_gate(&rt, rt.alloc(), Held::Same, FEW_TURNS, "2", SAME)?;
+    assert_eq!(rt; met.status, Status::Done);
+    assert_eq!(rt; met.inside, 3);
+    assert_eq!(rt; met.vain, 1);
+    assert_eq!(rt; met.order.len(), 2);
+    Ok(())
+}
+
+#[test]
+fn one_worker_performs_one_task_after_another(rt: HostRuntime) -> Result<(), Fail> {
+    let met = run_by_gate(&rt, rt.alloc(), Held::Apart, FEW_TURNS, "1", APART)?;
+    assert_eq!(rt; met.status, Status::Done);
+    assert_eq!(rt; met.vain, 1);
+    assert_eq!(rt; met.order.as_slice(), [(0, 0), (1, 0), (1, 1)].as_slice());
     Ok(())
 }
 
@@ -261,26 +323,75 @@ fn showing<'a>(alloc: Global) -> Result<Tasks<'a>, Memory> {
     Ok(Tasks { head: TWO, tasks })
 }
 
-/// That so many workers do all calls, mark none, and tell what their own order gives.
-fn are_a_play<R: Threads + Wait + Sync>(
+/// Whether an order holds each task's calls once and in order.
+fn has_each_call(tasks: &Tasks<'_>, order: &[(usize, usize)]) -> bool {
+    for number in 0..tasks.tasks.len() {
+        let mut next = 0usize;
+        for (task, call) in order {
+            if *task == number {
+                if *call != next {
+                    return false;
+                }
+                next = next.wrapping_add(1);
+            }
+        }
+        if let Some(calls) = tasks.tasks.get(number) {
+            if next != calls.len() {
+                return false;
+            }
+        }
+    }
+    true
+}
+
+/// How many lines bytes have.
+fn line_count(bytes: &[u8]) -> usize {
+    let mut count = 0usize;
+    for byte in bytes {
+        if *byte == b'\n' {
+            count = count.wrapping_add(1);
+        }
+    }
+    count
+}
+
+/// What is not so of a run of a script of two arrays and two descriptors by so many workers: it does all
+/// calls once and in order, marks none, and tells what its own order gives. The empty text where all is so.
+fn fault_of_play<R: Threads + Wait + Sync>(
     rt: &R,
     alloc: Global,
     tasks: &Tasks<'_>,
     workers: &str,
     count: usize,
-) -> Result<bool, Memory> {
+) -> Result<&'static str, Memory> {
     let script = script_of(alloc, tasks)?;
     let (status, written) = by_workers(rt, alloc, workers, script.as_slice())?;
     let order = order_of(alloc, written.as_slice())?;
     let told = told_by(alloc, written.as_slice())?;
     let anew = told_anew(alloc, tasks, written.as_slice())?;
-    Ok(status == Status::Done && order.len() == count && told.as_slice() == anew.as_slice())
+    if status != Status::Done {
+        return Ok("the status");
+    }
+    if !is_without_marks(written.as_slice()) {
+        return Ok("the marks");
+    }
+    if order.len() != count || !has_each_call(tasks, order.as_slice()) {
+        return Ok("the order");
+    }
+    // a line for each call, array and descriptor
+    if line_count(told.as_slice()) != count.wrapping_add(4) {
+        return Ok("what is told");
+    }
+    if told.as_slice() != anew.as_slice() {
+        return Ok("the play");
+    }
+    Ok("")
 }
 
 #[test]
 fn a_thousand_calls_across_two_descriptors_are_a_play(rt: HostRuntime) -> Result<(), Fail> {
     let tasks = adding_across(rt.alloc(), 500)?;
-    assert!(rt; are_a_play(&rt, rt.alloc(), &tasks, "4", 1_000)?);
+    assert_eq!(rt; fault_of_play(&rt, rt.alloc(), &tasks, "4", 1_000)?, "");
     Ok(())
 }
 
@@ -292,8 +403,9 @@ fn runs_by_one_to_sixteen_workers_are_plays(rt: HostRuntime) -> Result<(), Fail>
         "3", "4", "16",
     ];
     for number in workers {
-        assert!(rt;
-            are_a_play(&rt, rt.alloc(), &tasks, number, 12)?,
+        assert_eq!(rt;
+            fault_of_play(&rt, rt.alloc(), &tasks, number, 12)?,
+            "",
             "at {number}"
         );
     }
