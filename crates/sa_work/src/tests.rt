@@ -70,19 +70,28 @@ fn told<G: Gathered>(alloc: Global, run: &G) -> Result<Vec<u8>, Memory> {
     Ok(out)
 }
 
-/// What so many workers tell.
+/// What so many workers tell, and how many lines the chain of the first task has.
 fn by_workers<R: Threads + Wait + Sync>(
     rt: &R,
     alloc: Global,
     script: &Script,
     workers: u32,
-) -> Result<Vec<u8>, Memory>
+) -> Result<(Vec<u8>, u64), Memory>
     requires { 1 ≤ workers }
 {
     let run = run_tasks(rt, alloc, script, workers, &FreeGate)?;
     let told = told(alloc, &run);
+    let lines = lines_of_first(&run);
     run.let_go();
-    told
+    Ok((told?, lines))
+}
+
+/// How many lines the chain of the first task has; 0 where there is no task.
+fn lines_of_first(run: &Threaded<'_>) -> u64 {
+    match run.passes.first() {
+        Some(pass) => pass.chain().count(),
+        None => 0,
+    }
 }
 
 #[test]
@@ -101,8 +110,10 @@ fn tasks_are_performed_one_after_another(rt: HostRuntime) -> Result<(), Fail> {
 fn overlapping_views_are_read_before_they_are_written(rt: HostRuntime) -> Result<(), Fail> {
     let alloc = rt.alloc();
     let script = parse(alloc, OVERLAPPING)?;
+    let (told, lines) = by_workers(&rt, alloc, &script, 4)?;
+    assert_eq!(rt; lines, 4);
     assert_eq!(rt;
-        by_workers(&rt, alloc, &script, 4)?.as_slice(),
+        told.as_slice(),
         b"00d 01d 02(\"a\",\"ab\",\"bc\") 03z ".as_slice()
     );
     Ok(())
