@@ -12,7 +12,7 @@ fn view(start: u32, count: u32, step: i32) -> View {
 }
 
 /// Start, count and step of a view, and a length that it fits or not.
-const FITS: &[(u32, u32, i32, u32, bool)] = &[
+static FITS: &[(u32, u32, i32, u32, bool)] = &[
     (3, 0, 1, 3, true),
     (4, 0, 1, 3, false),
     (0, 0, 0, 3, false),
@@ -47,7 +47,7 @@ fn fits_at_its_edges(rt: HostRuntime) -> Result<(), Fail> {
 }
 
 /// Start, count and step of a view, and where a place of it is.
-const PLACES: &[(u32, u32, i32, u32, u32)] = &[
+static PLACES: &[(u32, u32, i32, u32, u32)] = &[
     (5, 3, 2, 0, 5),
     (5, 3, 2, 2, 9),
     (5, 3, -2, 2, 1),
@@ -74,7 +74,7 @@ fn a_place(rt: HostRuntime) -> Result<(), Fail> {
 }
 
 /// Start, count and step of a view, and which of the places 0 to 6 it names.
-const NAMES: &[(u32, u32, i32, [bool; 7])] = &[
+static NAMES: &[(u32, u32, i32, [bool; 7])] = &[
     (1, 3, 2, [false, true, false, true, false, true, false]),
     (5, 3, -2, [false, true, false, true, false, true, false]),
     (5, 2, -3, [false, false, true, false, false, true, false]),
@@ -99,7 +99,7 @@ fn the_places_named(rt: HostRuntime) -> Result<(), Fail> {
 }
 
 /// Two views by start, count and step, and whether they overlap in one array.
-const OVERLAP: &[((u32, u32, i32), (u32, u32, i32), bool)] = &[
+static OVERLAP: &[((u32, u32, i32), (u32, u32, i32), bool)] = &[
     ((0, 3, 2), (1, 3, 2), false),
     ((0, 3, 2), (4, 1, 1), true),
     ((5, 3, -2), (0, 2, 1), true),
@@ -131,7 +131,7 @@ fn views_that_overlap(rt: HostRuntime) -> Result<(), Fail> {
 }
 
 /// Counts, and their length.
-const BROADCAST: &[(&[u32], Option<u32>)] = &[
+static BROADCAST: &[(&[u32], Option<u32>)] = &[
     (&[], Some(1)),
     (&[1, 1], Some(1)),
     (&[0, 1], Some(0)),
@@ -155,7 +155,7 @@ fn the_length_of_counts(rt: HostRuntime) -> Result<(), Fail> {
 type Slice = (u32, Option<i64>, Option<i64>, i32, u32, u32);
 
 /// Slices of an array of length 3, and some with bounds or steps far outside.
-const WORKED: &[Slice] = &[
+static WORKED: &[Slice] = &[
     (3, None, None, -1, 2, 3),
     (3, Some(-2), None, 1, 1, 2),
     (3, None, Some(-1), 2, 0, 1),
@@ -189,7 +189,7 @@ fn slices_worked(rt: HostRuntime) -> Result<(), Fail> {
 }
 
 /// What `range(n)[a:b:c]` of Python 3 starts with, where it has an item, and how many it has.
-const OF_PYTHON: &[Slice] = &[
+static OF_PYTHON: &[Slice] = &[
     (0, None, None, 1, 0, 0),
     (0, Some(-2), None, 1, 0, 0),
     (0, None, Some(-1), 1, 0, 0),
