@@ -7,7 +7,7 @@ use std::test::Fail;
 
 /// A text, its code points and the byte where each begins, with the end: Python's `[ord(c) for c in t]`
 /// and `len(t[:k].encode())`.
-const ROWS: [(&str, &[u32], &[u32]); 8] = [
+static ROWS: [(&str, &[u32], &[u32]); 8] = [
     ("", &[], &[0]),
     ("a", &[97], &[0, 1]),
     (
@@ -75,7 +75,7 @@ fn try_point(rt: &impl Abort, text: &Text, at: u32, point: u32, after: u32) {
 
 #[test]
 fn places_are_those_of_python(rt: HostRuntime) -> Result<(), Fail> {
-    for (text, points, begins) in ROWS {
+    for (text, points, begins) in &ROWS {
         let text = Text::from_bytes(rt.alloc(), text.as_bytes())?;
         try_places(&rt, &text, points, begins);
         try_ends(&rt, &text, points);
