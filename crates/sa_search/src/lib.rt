@@ -18,4 +18,6 @@ pub use firsts::takes_first;
 pub use replaces::replace;
 
 #[cfg(test)]
+mod replace_tests;
+#[cfg(test)]
 mod tests;

@@ -16,6 +16,8 @@ pub use top::{run, run_still};
 pub use words::{Command, read_words, words_after_name};
 
 #[cfg(test)]
+mod gate_tests;
+#[cfg(test)]
 mod replay;
 #[cfg(test)]
 mod tests;
