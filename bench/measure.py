@@ -1,5 +1,6 @@
 """Runs the program on loads of growing size and prints time, memory, and time per byte of script and
-report together; for the loads that are told in calls, per byte of text that the calls copy, make or show; then
+report together; for the loads that are told in calls, per byte of text that the calls copy, make or show; for searches
+per byte of the texts in which is sought, at three sizes of a text; then
 time on one, two and four workers, and how many different histories a hundred runs gave."""
 import os
 import subprocess
@@ -112,6 +113,25 @@ MAKING = (("add", making(b'add a "-xyz" into b\n', 10)), ("multiply", making(b"m
           ("rstrip", making(b'rstrip a " " into b\n', 5)))
 
 
+def seeking(line, piece):
+    """A load of one call that seeks in 8 texts of this size, each a piece again and again."""
+
+    def load(size):
+        text = (piece * (size // len(piece) + 1))[:size]
+        head = b"descr d nan\ndescr e nan\narray a d str 8\narray b e str 8\ntask\n"
+        head += b"set a (" + b",".join([b'"' + text + b'"'] * 8) + b")\n"
+        return head + line * 1023 + b"end\n", 8 * size * 1023
+
+    return load
+
+
+# What is sought is not there, is nearly there everywhere, or is there many times.
+SEEKING = (("find", seeking(b'find a "y"\n', b"some text ")), ("nearly", seeking(b'find a "aaaaaaab"\n', b"a")),
+           ("rfind", seeking(b'rfind a "xt some y"\n', b"some text ")), ("count", seeking(b'count a "xt"\n', b"some text ")),
+           ("points", seeking(b'find a "" 50000\n', "é".encode())), ("replace", seeking(b'replace a "xt" "yz" into b\n', b"some text ")),
+           ("misses", seeking(b'replace a "aaaaaaab" "" into b\n', b"a")))
+
+
 def apart():
     """8 tasks of 128 calls, each task on a descriptor of its own with 1,024 entries, which every call rewrites
     with texts of 20 to 219 bytes."""
@@ -201,6 +221,12 @@ def main():
             script, moved = make(calls)
             wall, peak, status, _ = run(program, script)
             print(f"{name:<10}{calls:>6}{status:>8}{wall:>9.3f}{wall / moved * 1e9:>11.1f}{shown_memory(peak)}{moved / MIB:>12.2f}")
+    print(f"{'load':<10}{'bytes':>6}{'status':>8}{'wall s':>9}{'ns a byte':>11}{'peak MiB':>10}{'sought MiB':>12}")
+    for name, make in SEEKING:
+        for size in (15000, 30000, 60000):
+            script, sought = make(size)
+            wall, peak, status, _ = run(program, script)
+            print(f"{name:<10}{size:>6}{status:>8}{wall:>9.3f}{wall / sought * 1e9:>11.2f}{shown_memory(peak)}{sought / MIB:>12.2f}")
     print(f"{'load':<10}{'workers':>8}{'status':>8}{'wall s':>9}{'times as fast':>15}")
     for name, script in (("apart", apart()), ("across", across())):
         alone = None

@@ -36,7 +36,7 @@ home-once decls call declared valid d any =
     once-among (is_named decls call) d (length decls.descrs) below named
 
 -- lists that were read, told by descriptor
-pub items-decide : (decls : Declared) (call : Call) (lists : List Items) (weights : List ℕ) → IsDeclared decls → IsCall decls call → (entry call.op).gives ≡ gives.Same → map count_of lists ≡ view_counts call.operands
+pub items-decide : (decls : Declared) (call : Call) (lists : List Items) (weights : List ℕ) → IsDeclared decls → IsCall decls call → (entry call.op).gives ≡ gives.Items → map count_of lists ≡ view_counts call.operands
     → outcome_read decls call (columns_read call.operands lists) ≡ decide decls call (parts_told decls call (operands.Items lists) weights)
 items-decide decls call lists weights declared valid same counts =
     let homes = homes_of decls call in
@@ -121,7 +121,7 @@ picture-decide decls call p weights given valid = sym (whole-part decls call (Pi
 
 -- the weights of what is too heavy
 pub weight-by : (given : Gives) (places : List Place) (weight : ℕ) → part_weight (weighed_by given places weight) ≡ weight
-weight-by gives.Same places weight = refl
+weight-by gives.Items places weight = refl
 weight-by gives.Statistics places weight = refl
 weight-by gives.Picture places weight = refl
 

@@ -8,14 +8,17 @@ use Rattle.sa_text.specs.Values.{item_of, value_of, stretched}
 use Rattle.sa_text.specs.declared.value.Value.{Value}
 use Rattle.sa_text.specs.declared.value.Value.TheVariants.{Missing, Of}
 use Rattle.sa_text.specs.Texts.{text_size}
+use Rattle.sa_plain.specs.declared.items.Items.{Items}
 use Rattle.sa_plain.specs.declared.items.Items.TheVariants.{Values}
+use Rattle.sa_call.specs.declared.form.Results.{Results}
+use Rattle.sa_call.specs.declared.form.Results.TheVariants as results
 use Rattle.sa_call.specs.declared.call.Call.{Call}
 use Rattle.sa_call.specs.declared.call.Op.{Op}
 use Rattle.sa_descr.specs.declared.descr.NaRule.{NaRule}
 use Rattle.sa_call.specs.declared.reply.Refusal.{Refusal}
 use Rattle.sa_call.specs.declared.reply.Refusal.TheVariants as refusal
 use Rattle.sa_call.specs.Calls.{elements_in, lengths_fit, operand_count}
-use Rattle.sa_call.specs.Decides.{forbids, items_from, outcome_of, outcome_on, rule_in, setting_by, setting_of}
+use Rattle.sa_call.specs.Decides.{forbids, outcome_of, outcome_on, results_as, rule_in, setting_by, setting_of}
 use Rattle.sa_call.specs.Decls.{Declared}
 use Rattle.sa_call.specs.Elements.{elements, and_later, gathered, with_front}
 use Rattle.sa_call.specs.Forms.{IsMoving, Row, entry, item}
@@ -91,27 +94,34 @@ gathered-came f weight at (Of text ∷ vs) =
     came-cons at (Of text) vs (f && false) (nat_lt 1048576 (weight + (16 + text_size text))) (λ i. gathered f (weight + item_weight i) (at + 1) (moved vs)) (refused f (weight + (16 + text_size text)) (at + 1) vs)
     (gathered-came f (weight + (16 + text_size text)) (at + 1) vs)
 
--- what comes of a call that moves values
-pub outcome-moved : (d : Declared) (call : Call) (weight : ℕ) (vs ws : List Value) (r : Option (Refusal × ℕ))
-    → IsMoving call.op → lengths_fit call ≡ true → map operand_count call.operands ≡ length vs ∷ []
-    → ws ≡ stretched (elements_in call) vs → r ≡ refused (forbids d call.out) weight 0 ws
-    → outcome_of call.out (came r ws) ≡ outcome_on d call weight (map item_of vs ∷ [])
-outcome-moved d call weight vs ws r is fit one values refuses =
-    let n = elements_in call in
-    let fits : (n ≡ length vs) ⊎ (length vs ≡ 1) = elim (elements-many call (length vs) one fit) [ inl e ↦ inl e | inr p ↦ inr p.0 ] in
-    let each : elements (setting_of d call) call.op (map item_of vs ∷ []) n ≡ moved ws = moving-elements call.op (rule_in d call) (map item_of vs ∷ []) n is ∙ moved-stretched vs n fits ∙ ap moved (sym values) in
-    let all : gathered (forbids d call.out) weight 0 (elements (setting_of d call) call.op (map item_of vs ∷ []) n) ≡ came r ws =
-    ap (gathered (forbids d call.out) weight 0) each ∙ gathered-came (forbids d call.out) weight 0 ws ∙ ap (λ q. came q ws) (sym refuses) in
-    ap (outcome_of call.out) (sym all)
-
 -- the items of values are these values
 values-items : (vs : List Value) → map value_of (map item_of vs) ≡ vs
 values-items [] = refl
 values-items (Missing ∷ vs) = ap (λ ws. Missing ∷ ws) (values-items vs)
 values-items (Of text ∷ vs) = ap (λ ws. Of text ∷ ws) (values-items vs)
 
-pub items-back : (vs : List Value) → items_from (map item_of vs) ≡ Values vs
-items-back vs = ap Values (values-items vs)
+-- the values, or their first refusal
+abbrev pub given : Option (Refusal × ℕ) → List Value → Result Items (Refusal × ℕ)
+given None vs = Ok (Values vs)
+given (Some r) vs = Err r
+
+came-given : (r : Option (Refusal × ℕ)) (vs : List Value) → given r vs ≡ results_as results.Moved (came r vs)
+came-given None vs = ap (λ ws. Ok (Values ws)) (sym (values-items vs))
+came-given (Some r) vs = refl
+
+-- what comes of a call that moves values
+pub outcome-moved : (d : Declared) (call : Call) (weight : ℕ) (vs ws : List Value) (r : Option (Refusal × ℕ))
+    → IsMoving call.op → lengths_fit call ≡ true → map operand_count call.operands ≡ length vs ∷ []
+    → ws ≡ stretched (elements_in call) vs → r ≡ refused (forbids d call.out) weight 0 ws
+    → outcome_of call.out (given r ws) ≡ outcome_on d call weight (map item_of vs ∷ [])
+outcome-moved d call weight vs ws r is fit one values refuses =
+    let n = elements_in call in
+    let fits : (n ≡ length vs) ⊎ (length vs ≡ 1) = elim (elements-many call (length vs) one fit) [ inl e ↦ inl e | inr p ↦ inr p.0 ] in
+    let each : elements (setting_of d call) call.op (map item_of vs ∷ []) n ≡ moved ws = moving-elements call.op (rule_in d call) (map item_of vs ∷ []) n is ∙ moved-stretched vs n fits ∙ ap moved (sym values) in
+    let all : gathered (forbids d call.out) weight 0 (elements (setting_of d call) call.op (map item_of vs ∷ []) n) ≡ came r ws =
+    ap (gathered (forbids d call.out) weight 0) each ∙ gathered-came (forbids d call.out) weight 0 ws ∙ ap (λ q. came q ws) (sym refuses) in
+    ap (outcome_of call.out) (came-given r ws ∙ ap (results_as results.Moved) (sym all))
+    ∙ ap (λ (k : Results). outcome_of call.out (results_as k (gathered (forbids d call.out) weight 0 (elements (setting_of d call) call.op (map item_of vs ∷ []) n)))) (sym is.results)
 
 -- how many stretched values are
 pub stretched-few : (n : ℕ) (vs : List Value) → n ≤ 8192 → length vs ≤ 8192 → length (stretched n vs) ≤ 8192

@@ -1,5 +1,6 @@
 -- The descriptors of a valid call's views are declared.
-use Rattle.std.proofs.Common.{◌≡◌, ◌<◌, ℕ, zero, suc, true, nat_lt, ◌++◌, List, [], ◌∷◌, length, map, get_or, Option, Some, None, arith}
+use Rattle.std.proofs.Common.{◌≡◌, ◌<◌, ◌≤◌, ℕ, zero, suc, true, nat_lt, ◌++◌, List, [], ◌∷◌, length, map, get_or, Option, Some, None, is_some, arith, length-append}
+use Rattle.std.proofs.lemmas.List.{length-map}
 use Rattle.std.specs.List.{All, AllByRecursion, list_all}
 use Rattle.std.proofs.lemmas.Bool.{and_parts, ltb-true}
 use Rattle.std.proofs.lemmas.List.Elements.{All-from_recursion}
@@ -12,7 +13,9 @@ use Rattle.sa_call.specs.declared.decls.ArrayDecl.{ArrayDecl}
 use Rattle.sa_call.specs.declared.decls.Kind.TheVariants as kind
 use Rattle.sa_call.specs.Calls.{homes_in, operand_arrays, output_arrays}
 use Rattle.sa_call.specs.Decls.{Declared, IsDeclared, home_of, length_at}
-use Rattle.sa_call.specs.Valid.{IsCall, is_operand_of, is_output_of, is_view_of}
+use Rattle.sa_call.specs.Forms.{entry}
+use Rattle.sa_call.proofs.OpLemmas.{few-operands, on-group}
+use Rattle.sa_call.specs.Valid.{IsCall, fit_table, is_operand_of, is_output_of, is_view_of}
 
 home-there : (n : ℕ) (arrays : List ArrayDecl) (k : ℕ) → AllByRecursion (λ (a : ArrayDecl). a.home < n) arrays → k < length arrays → (get_or arrays k (record { home = 0; kind = kind.Str; len = 0 })).home < n
 home-there n [] k all below = absurd (omega arith)
@@ -33,3 +36,22 @@ homes-declared d (operand.View v ∷ os) out declared views into =
 
 pub call-homes : (d : Declared) (call : Call) → IsDeclared d → IsCall d call → All (λ (n : ℕ). n < length d.descrs) (homes_in d call)
 call-homes d call declared valid = All-from_recursion (λ (n : ℕ). n < length d.descrs) (homes_in d call) (homes-declared d call.operands call.out declared valid.views valid.into)
+
+-- and they are few
+few-arrays : (os : List Operand) → length (operand_arrays os) ≤ length os
+few-arrays [] = omega arith
+few-arrays (operand.View v ∷ os) = let rest = few-arrays os in omega arith
+few-arrays (operand.Literal items ∷ os) = let rest = few-arrays os in omega arith
+
+few-output : (out : Option View) → length (output_arrays out) ≤ 1
+few-output None = omega arith
+few-output (Some v) = omega arith
+
+pub homes-few : (d : Declared) (call : Call) → is_some (entry call.op).group ≡ true → fit_table call.op call.operands ≡ true → length (homes_in d call) < 4294967296
+homes-few d call given sorts =
+    let operands = few-operands call.op call.operands (on-group call.op given) sorts in
+    let arrays = few-arrays call.operands in
+    let output = few-output call.out in
+    let both = length-append (operand_arrays call.operands) (output_arrays call.out) in
+    let same = length-map (operand_arrays call.operands ++ output_arrays call.out) (home_of d) in
+    omega arith

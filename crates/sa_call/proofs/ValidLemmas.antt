@@ -19,7 +19,9 @@ use Rattle.sa_call.specs.declared.form.Sort.TheVariants as sort
 use Rattle.sa_call.specs.Calls.{is_length_of}
 use Rattle.sa_call.specs.Decls.{Declared, length_at}
 use Rattle.sa_call.specs.Forms.{descr_of, entry}
-use Rattle.sa_call.specs.Valid.{IsCall, are_of, are_values, is_view_of}
+use Rattle.sa_call.specs.declared.form.Results.{Results}
+use Rattle.sa_call.specs.declared.form.Results.TheVariants as results
+use Rattle.sa_call.specs.Valid.{IsCall, are_of, are_values, is_empty, is_view_of, results_fit}
 use Rattle.sa_call.proofs.CountLemmas.{joined-one}
 
 abbrev twenty : ArrayDecl
@@ -56,6 +58,7 @@ set-valid d items v arrays array fit some few texts values lengths = record {
   sorts = refl;
   kinds = and_from (are_values items) true values refl;
   rules = refl;
+  results = refl;
   output = refl;
   views = refl;
   into = view-valid d v arrays array fit;
@@ -70,6 +73,7 @@ copy-valid d v w arrays from from_fits array fit lengths = record {
   sorts = refl;
   kinds = refl;
   rules = refl;
+  results = refl;
   output = refl;
   views = and_from (is_view_of d v) true (view-valid d v arrays from from_fits) refl;
   into = view-valid d w arrays array fit;
@@ -83,6 +87,7 @@ show-valid d v arrays array fit = record {
   sorts = refl;
   kinds = refl;
   rules = refl;
+  results = refl;
   output = refl;
   views = and_from (is_view_of d v) true (view-valid d v arrays array fit) refl;
   into = refl;
@@ -91,10 +96,21 @@ show-valid d v arrays array fit = record {
   literals = (tt, tt);
 }
 
+or-right : (a b : Bool) → b ≡ true → (a || b) ≡ true
+or-right true b e = refl
+or-right false b e = e
+
+results-none : (kind : Results) → results_fit kind None ≡ true
+results-none results.Moved = refl
+results-none results.Texts = refl
+results-none results.Numbers = refl
+results-none results.Flags = refl
+
 pub whole-valid : (d : Declared) (o : Op) → length d.descrs ≡ 1 → (entry o).needs ≡ sort.Descr ∷ [] → (entry o).may ≡ [] → (entry o).into ≡ into.Never → (entry o).group ≡ None → descr_of o ≡ Some 0 → IsCall d (record { op = o; operands = []; out = None })
 whole-valid d o one takes alone never moves first = record {
-  sorts = ap (λ ss. are_of ss [] || are_of (ss ++ (entry o).may) []) takes;
+  sorts = or-right (is_empty (entry o).defaults && are_of (entry o).needs []) (are_of ((entry o).needs ++ (entry o).may) []) (ap (λ ss. are_of (ss ++ (entry o).may) []) takes ∙ ap (λ ms. are_of (sort.Descr ∷ ms) []) alone);
   kinds = refl;
+  results = results-none (entry o).results;
   output = rw never refl;
   views = refl;
   into = refl;

@@ -10,8 +10,10 @@ use Rattle.sa_descr.specs.declared.descr.NaRule.TheVariants.{Absent, Nan, Other,
 use Rattle.sa_descr.specs.declared.missing.MissGroup.{MissGroup}
 use Rattle.sa_view.specs.declared.view.View.{View}
 use Rattle.sa_plain.specs.declared.items.Items.{Items}
-use Rattle.sa_plain.specs.declared.items.Items.TheVariants.{Values}
+use Rattle.sa_plain.specs.declared.items.Items.TheVariants.{Values, Ints, Flags}
 use Rattle.sa_call.specs.declared.call.Call.{Call}
+use Rattle.sa_call.specs.declared.form.Results.{Results}
+use Rattle.sa_call.specs.declared.form.Results.TheVariants as results
 use Rattle.sa_call.specs.declared.reply.Refusal.{Refusal}
 use Rattle.sa_call.specs.declared.reply.Refusal.TheVariants as refusal
 use Rattle.sa_call.specs.declared.reply.Reply.{Reply}
@@ -20,7 +22,7 @@ use Rattle.sa_call.specs.declared.reply.Outcome.{Outcome}
 use Rattle.sa_call.specs.Calls.{elements_in, homes_in}
 use Rattle.sa_call.specs.Decls.{Declared, home_of}
 use Rattle.sa_call.specs.Elements.{Setting, elements, gathered}
-use Rattle.sa_call.specs.Forms.{descr_of, entry}
+use Rattle.sa_call.specs.Forms.{descr_of, entry, flag_in, number_in}
 use Rattle.sa_call.specs.Limits.{most_weight}
 use Rattle.sa_call.specs.Parts.{Parts, items_read, weight_read, columns_of}
 
@@ -30,6 +32,7 @@ refusal_code refusal.NoMissing = 1
 refusal_code refusal.MissingValue = 2
 refusal_code refusal.TooLong = 3
 refusal_code refusal.TooMuch = 4
+refusal_code refusal.NotFound = 9
 
 -- a call that is refused at an element changes nothing
 abbrev pub refused_with : Refusal → ℕ → Outcome
@@ -63,19 +66,28 @@ setting_by (Some group) rule = record { miss = Some (miss_of group rule); blank 
 abbrev pub setting_of : Declared → Call → Setting
 setting_of decls call = setting_by (entry call.op).group (rule_in decls call)
 
--- items as a list of one kind
-abbrev pub items_from : List Item → Items
-items_from items = Values (map value_of items)
+-- items as a list of the kind that a call gives; until plain arrays are in a script what is moved are values
+abbrev pub items_as : Results → List Item → Items
+items_as results.Moved items = Values (map value_of items)
+items_as results.Texts items = Values (map value_of items)
+items_as results.Numbers items = Ints (map number_in items)
+items_as results.Flags items = Flags (map flag_in items)
+
+-- the results, or the first refusal and its place
+abbrev pub results_as : Results → Result (List Item) (Refusal × ℕ) → Result Items (Refusal × ℕ)
+results_as kind (Ok items) = Ok (items_as kind items)
+results_as kind (Err refused) = Err refused
 
 -- the first refusal, or the results: put into the output, or answered where there is none
-abbrev pub outcome_of : Option View → Result (List Item) (Refusal × ℕ) → Outcome
+abbrev pub outcome_of : Option View → Result Items (Refusal × ℕ) → Outcome
 outcome_of out (Err refused) = refused_with refused.0 refused.1
-outcome_of None (Ok items) = record { results = None; reply = reply.Shown (items_from items) }
-outcome_of (Some out) (Ok items) = record { results = Some (items_from items); reply = reply.Done }
+outcome_of None (Ok results) = record { results = None; reply = reply.Shown results }
+outcome_of (Some out) (Ok results) = record { results = Some results; reply = reply.Done }
 
 -- what comes of the items of the operands, which have this weight
 abbrev pub outcome_on : Declared → Call → ℕ → List (List Item) → Outcome
-outcome_on decls call weight columns = outcome_of call.out (gathered (forbids decls call.out) weight 0 (elements (setting_of decls call) call.op columns (elements_in call)))
+outcome_on decls call weight columns =
+    outcome_of call.out (results_as (entry call.op).results (gathered (forbids decls call.out) weight 0 (elements (setting_of decls call) call.op columns (elements_in call))))
 
 abbrev pub done : Reply → Outcome
 done answer = record { results = None; reply = answer }

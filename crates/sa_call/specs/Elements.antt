@@ -4,7 +4,8 @@ use Rattle.std.specs.List.{list_any, range_with_len}
 use Rattle.sa_base.specs.Items.{Item, MissingItem, TextItem, IntegerItem, FlagItem, BytesItem, UnitsItem}
 use Rattle.sa_call.specs.declared.call.Op.{Op}
 use Rattle.sa_text.specs.Values.{item_of}
-use Rattle.sa_text.specs.declared.value.Value.{Value}
+use Rattle.sa_call.specs.declared.cell.Cell.{Cell}
+use Rattle.sa_call.specs.declared.cell.Cell.TheVariants as cell
 use Rattle.sa_call.specs.declared.element.Stop.{Stop}
 use Rattle.sa_call.specs.declared.element.Stop.TheVariants as stop
 use Rattle.sa_call.specs.declared.reply.Refusal.{Refusal}
@@ -37,14 +38,6 @@ missed No computed = Ok (FlagItem false)
 missed Yes computed = Ok (FlagItem true)
 missed Refuse computed = Err refusal.MissingValue
 
--- a missing text gives a text, a missing value or a refusal
-abbrev pub gives_texts : Miss → Bool
-gives_texts Gone = true
-gives_texts AsText = true
-gives_texts No = false
-gives_texts Yes = false
-gives_texts Refuse = true
-
 abbrev pub treated : Option Miss → Bool → Result Item Refusal → Result Item Refusal
 treated None missing computed = computed
 treated (Some miss) missing computed = if missing then missed miss computed else computed
@@ -69,8 +62,14 @@ abbrev pub StopsElement : Stop → Result Item Refusal → Type 0
 StopsElement stop.Memory defined = Unit {0}
 StopsElement (stop.Refused cause) defined = defined ≡ Err cause
 
-abbrev pub GivesElement : Result Value Stop → Result Item Refusal → Type 0
-GivesElement (Ok value) defined = defined ≡ Ok (item_of value)
+-- the item that a computed one is
+abbrev pub cell_item : Cell → Item
+cell_item (cell.Value value) = item_of value
+cell_item (cell.Number n) = IntegerItem n
+cell_item (cell.Flag b) = FlagItem b
+
+abbrev pub GivesElement : Result Cell Stop → Result Item Refusal → Type 0
+GivesElement (Ok cell) defined = defined ≡ Ok (cell_item cell)
 GivesElement (Err error) defined = StopsElement error defined
 
 -- a result that follows this weight is refused where it is missing and the output forbids that, and where the weight passes its limit with it

@@ -14,5 +14,5 @@ use Rattle.sa_call.specs.Valid.{IsCall}
 
 -- What comes of a valid call by the lists that it read, one for each view and as long, is what comes of it by descriptor.
 abbrev pub PartsDecide : Type 0
-PartsDecide = (decls : Declared) (call : Call) (lists : List Items) (weights : List ℕ) → IsDeclared decls → IsCall decls call → (entry call.op).gives ≡ gives.Same → map count_of lists ≡ view_counts call.operands
+PartsDecide = (decls : Declared) (call : Call) (lists : List Items) (weights : List ℕ) → IsDeclared decls → IsCall decls call → (entry call.op).gives ≡ gives.Items → map count_of lists ≡ view_counts call.operands
     → outcome_read decls call (columns_read call.operands lists) ≡ decide decls call (parts_told decls call (operands.Items lists) weights)

@@ -71,7 +71,7 @@ items_told decls d (operand.View v ∷ os) (items ∷ lists) = (if home_of decls
 
 -- what a call that is too heavy read of a descriptor: the weight alone
 abbrev pub weighed_by : Gives → List Place → ℕ → Part
-weighed_by gives.Same places weight = Weighed places weight
+weighed_by gives.Items places weight = Weighed places weight
 weighed_by gives.Statistics places weight = Weighed places weight
 weighed_by gives.Picture places weight = PictureWeighed weight
 
@@ -95,13 +95,13 @@ view_counts (operand.Literal items ∷ os) = view_counts os
 
 -- what a call of this kind reads has a weight
 abbrev pub has_weight : Gives → Bool
-has_weight gives.Same = true
+has_weight gives.Items = true
 has_weight gives.Statistics = false
 has_weight gives.Picture = true
 
 -- Operands are those of a call: a list of values for each view, as long as it; statistics; a picture; or the weight of what weighs too much.
 abbrev pub AreOperands : Call → Operands → Type 0
-AreOperands call (operands.Items lists) = ((entry call.op).gives ≡ gives.Same) × (map count_of lists ≡ view_counts call.operands) × (all_values lists ≡ true)
+AreOperands call (operands.Items lists) = ((entry call.op).gives ≡ gives.Items) × (map count_of lists ≡ view_counts call.operands) × (all_values lists ≡ true)
 AreOperands call (operands.Stats stats) = (entry call.op).gives ≡ gives.Statistics
 AreOperands call (operands.Picture p) = ((entry call.op).gives ≡ gives.Picture) × (length p.entries ≤ most_entries)
 AreOperands call (operands.Big weight) = (has_weight (entry call.op).gives ≡ true) × (most_weight < weight)

@@ -1,5 +1,5 @@
 -- Calls that are valid under declarations, by the table of calls.
-use Rattle.std.specs.Prelude.{◌≡◌, ◌≤◌, ℕ, nat_lt, Bool, true, false, ◌&&◌, ◌||◌, not, List, [], ◌∷◌, ◌++◌, length, take, filter, Option, Some, None, is_some, is_none, is_ok}
+use Rattle.std.specs.Prelude.{◌≡◌, ◌≤◌, ℕ, ℤ, nat_lt, Bool, true, false, ◌&&◌, ◌||◌, not, List, [], ◌∷◌, ◌++◌, length, take, filter, Option, Some, None, is_some, is_none, is_ok}
 use Rattle.std.specs.List.{AllByRecursion, list_all, list_any}
 use Rattle.sa_text.specs.Values.{IsTextValue, is_missing}
 use Rattle.sa_view.specs.Views.{fits}
@@ -14,6 +14,8 @@ use Rattle.sa_call.specs.declared.call.Operand.TheVariants as operand
 use Rattle.sa_call.specs.declared.call.Call.{Call}
 use Rattle.sa_call.specs.declared.form.Sort.{Sort}
 use Rattle.sa_call.specs.declared.form.Sort.TheVariants as sort
+use Rattle.sa_call.specs.declared.form.Results.{Results}
+use Rattle.sa_call.specs.declared.form.Results.TheVariants as results
 use Rattle.sa_call.specs.declared.form.Into.{Into}
 use Rattle.sa_call.specs.declared.form.Into.TheVariants as into
 use Rattle.sa_call.specs.Calls.{homes_in, lengths_fit}
@@ -70,13 +72,28 @@ all_are test (s ∷ ss) (o ∷ os) = test s o && all_are test ss os
 abbrev pub are_of : List Sort → List Operand → Bool
 are_of sorts operands = all_are is_of (filter is_operand sorts) operands
 
--- the operands are those of the call, with or without those that may be left out
+abbrev pub is_empty : List ℤ → Bool
+is_empty [] = true
+is_empty (n ∷ ns) = false
+
+-- all operands of the call; or, where no numbers stand for those that may be left out, the others alone
 abbrev pub fit_table : Op → List Operand → Bool
-fit_table o operands = are_of (entry o).needs operands || are_of ((entry o).needs ++ (entry o).may) operands
+fit_table o operands = (is_empty (entry o).defaults && are_of (entry o).needs operands) || are_of ((entry o).needs ++ (entry o).may) operands
 
 -- each operand has the kind that the table asks for
 abbrev pub kinds_fit : Op → List Operand → Bool
 kinds_fit o operands = all_are is_kind (take (length operands) (filter is_operand ((entry o).needs ++ (entry o).may))) operands
+
+-- texts go into strings arrays, and there are no others; other results are answered
+abbrev pub results_fit : Results → Option View → Bool
+results_fit results.Moved out = true
+results_fit results.Texts out = true
+results_fit results.Numbers out = is_none out
+results_fit results.Flags out = is_none out
+
+-- the operands and the results have the kinds that the table asks for
+abbrev pub call_kinds_fit : Call → Bool
+call_kinds_fit call = kinds_fit call.op call.operands && results_fit (entry call.op).results call.out
 
 -- the rules of the call's views combine, where missing values are not moved as they are
 abbrev pub rules_fit : Declared → Call → Bool
@@ -119,6 +136,7 @@ IsLiteralOperand (operand.Literal items) = IsLiteral items
 pub record IsCall (d : Declared) (call : Call) : Type 0 where
   pub sorts : fit_table call.op call.operands ≡ true
   pub kinds : kinds_fit call.op call.operands ≡ true
+  pub results : results_fit (entry call.op).results call.out ≡ true
   pub output : output_stands (entry call.op).into call.out ≡ true
   pub views : list_all (is_operand_of d) call.operands ≡ true
   pub into : is_output_of d call.out ≡ true

@@ -1,8 +1,14 @@
 -- The results of a call, gathered one element after another.
-use Rattle.std.specs.Prelude.{◌≡◌, ℕ, List, map, Result, Ok, Err}
+use Rattle.std.specs.Prelude.{◌≡◌, ◌++◌, ◌∷◌, [], ℕ, List, map, Result, Ok, Err}
 use Rattle.sa_base.specs.Items.{Item}
-use Rattle.sa_text.specs.Values.{item_of}
-use Rattle.sa_text.specs.declared.value.Value.{Value}
+use Rattle.sa_text.specs.Values.{value_of}
+use Rattle.sa_plain.specs.declared.items.Items.{Items}
+use Rattle.sa_plain.specs.declared.items.Items.TheVariants.{Values, Ints, Flags}
+use Rattle.sa_call.specs.declared.form.Results.{Results}
+use Rattle.sa_call.specs.declared.form.Results.TheVariants as results
+use Rattle.sa_call.specs.declared.results.ResultList.{ResultList}
+use Rattle.sa_call.specs.declared.results.ResultList.TheVariants as so_far
+use Rattle.sa_call.specs.Forms.{flag_in, number_in}
 use Rattle.sa_call.specs.declared.element.Stop.{Stop}
 use Rattle.sa_call.specs.declared.element.Stop.TheVariants as stop
 use Rattle.sa_call.specs.declared.reply.Refusal.{Refusal}
@@ -15,10 +21,33 @@ halt_at stop.Memory at = halt.Memory
 halt_at (stop.Refused cause) at = halt.Refused cause at
 
 -- want of memory apart, the results or the first refusal are those that are defined
-abbrev pub HaltsResults : Halt → Result (List Item) (Refusal × ℕ) → Type 0
+abbrev pub HaltsResults : Halt → Result Items (Refusal × ℕ) → Type 0
 HaltsResults halt.Memory defined = Unit {0}
 HaltsResults (halt.Refused cause at) defined = defined ≡ Err (cause, at)
 
-abbrev pub GivesResults : Result (List Value) Halt → Result (List Item) (Refusal × ℕ) → Type 0
-GivesResults (Ok values) defined = defined ≡ Ok (map item_of values)
+abbrev pub GivesResults : Result Items Halt → Result Items (Refusal × ℕ) → Type 0
+GivesResults (Ok results) defined = defined ≡ Ok results
 GivesResults (Err error) defined = HaltsResults error defined
+
+-- results so far, with these items behind them
+abbrev pub results_with : ResultList → List Item → Items
+results_with (so_far.Values values) items = Values (values ++ map value_of items)
+results_with (so_far.Numbers numbers) items = Ints (numbers ++ map number_in items)
+results_with (so_far.Flags flags) items = Flags (flags ++ map flag_in items)
+
+-- one result more
+abbrev pub with_result : ResultList → Item → ResultList
+with_result (so_far.Values values) item = so_far.Values (values ++ value_of item ∷ [])
+with_result (so_far.Numbers numbers) item = so_far.Numbers (numbers ++ number_in item ∷ [])
+with_result (so_far.Flags flags) item = so_far.Flags (flags ++ flag_in item ∷ [])
+
+abbrev pub no_results : Results → ResultList
+no_results results.Moved = so_far.Values []
+no_results results.Texts = so_far.Values []
+no_results results.Numbers = so_far.Numbers []
+no_results results.Flags = so_far.Flags []
+
+-- the results so far and those that are gathered behind them, or the first refusal
+abbrev pub joined : ResultList → Result (List Item) (Refusal × ℕ) → Result Items (Refusal × ℕ)
+joined results (Ok items) = Ok (results_with results items)
+joined results (Err refused) = Err refused

@@ -29,6 +29,42 @@ pub enum Op {
     Lstrip,
     /// Takes them away at the end.
     Rstrip,
+    /// Puts a text in place of another in a third, so many times.
+    Replace,
+    /// Tells the first place of a text in another, or -1.
+    Find,
+    /// Tells its last place, or -1.
+    Rfind,
+    /// Tells the first place; without one the call is refused.
+    Index,
+    /// Tells the last place; without one the call is refused.
+    Rindex,
+    /// Tells how often a text stands in another.
+    Count,
+    /// Tests whether a text stands in another where a search begins.
+    Starts,
+    /// Tests whether a text stands in another so that it ends where a search ends.
+    Ends,
+    /// Tests whether two texts are the same.
+    Equal,
+    /// Tests whether two texts differ.
+    NotEqual,
+    /// Tests whether the first of two texts is less, in the order of their code points.
+    Less,
+    /// Tests whether the first is less, or they are the same.
+    LessEqual,
+    /// Tests whether the first is greater.
+    Greater,
+    /// Tests whether the first is greater, or they are the same.
+    GreaterEqual,
+    /// Tests whether a text is not empty and each of its code points is a letter.
+    IsAlpha,
+    /// The same with decimal digits.
+    IsDecimal,
+    /// The same with letters and numbers.
+    IsAlnum,
+    /// The same with spaces.
+    IsSpace,
     /// Answers the statistics of the descriptor of this number.
     Stats(u8),
     /// Answers the picture of the descriptor of this number: its entries and its arena.

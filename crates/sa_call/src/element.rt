@@ -1,16 +1,19 @@
 ghost use Rattle.std.specs.Prelude.{◌≡◌, ◌≤◌, ℕ, List, Some, is_some, true, IfOk};
 ghost use Rattle.sa_text.specs.Making.{made, GivesText};
-ghost use Rattle.sa_call.specs.Elements.{and_admitted, element_of, gives_texts, GivesElement};
-ghost use Rattle.sa_call.specs.Forms.{entry, kept_element, made_element};
+ghost use Rattle.sa_call.specs.Elements.{admitted, and_admitted, cell_item, element_of, GivesElement};
+ghost use Rattle.sa_call.specs.Forms.{entry, kept_element, made_element, place_element, tells};
 ghost use Rattle.sa_call.specs.Limits.{most_weight};
 
 use crate::call::Op;
-use crate::refusals::refusal_of;
+use crate::cell::Cell;
+use crate::refusals::MOST_WEIGHT;
 use crate::reply::Refusal;
 use crate::row::Row;
 use sa_base::Memory;
 use sa_descr::Miss;
 use sa_edit::{add, center, ljust, lstrip, multiply, rjust, rstrip, strip, zfill};
+use sa_pred::{compare, is_alnum, is_alpha, is_decimal, is_space};
+use sa_search::{count, ends, find, index, replace, rfind, rindex, starts};
 use sa_text::{EditError, Text, Value};
 use std::alloc::Global;
 
@@ -23,7 +26,7 @@ pub(crate) enum Stop {
     Refused(Refusal),
 }
 
-/// What the elements of a call that makes texts are computed by: the call, what comes of a missing text,
+/// What the elements of a call of a group of missing values are computed by: the call, what comes of a missing text,
 /// the text that stands for one, and whether the output forbids missing values.
 #[derive(Drop)]
 pub(crate) struct Setting {
@@ -39,39 +42,49 @@ pub(crate) fn result_at(
     setting: &Setting,
     row: &Row<'_>,
     weight: u64,
-) -> Result<Value, Stop>
-    requires makes { is_some (entry setting.now.op).group ≡ true }
-    requires texts { gives_texts setting.now.miss ≡ true }
+) -> Result<Cell, Stop>
+    requires computes { is_some (entry setting.now.op).group ≡ true }
     requires light { weight ≤ most_weight }
     ensures { GivesElement result (and_admitted setting.now.forbidden weight (element_of (record { miss = Some setting.now.miss; blank = setting.now.blank }) setting.now.op row.now)) }
 {
-    let value = element(alloc, setting.op, setting.miss, row)?;
-    match refusal_of(setting.forbidden, weight, &value) {
-        Some(cause) => Err(Stop::Refused(cause)),
-        None => Ok(value),
+    let cell = element(alloc, setting.op, setting.miss, row)?;
+    admitted(setting.forbidden, weight, cell)
+}
+
+/// A result that follows this weight, if it is not refused.
+fn admitted(forbidden: bool, weight: u64, cell: Cell) -> Result<Cell, Stop>
+    requires { weight ≤ most_weight }
+    ensures { GivesElement result (admitted forbidden weight (cell_item cell)) }
+{
+    if forbidden && cell.is_missing() {
+        Err(Stop::Refused(Refusal::NoMissing))
+    } else if weight + cell.weight() > MOST_WEIGHT {
+        Err(Stop::Refused(Refusal::TooMuch))
+    } else {
+        Ok(cell)
     }
 }
 
 /// The element of a call at a row, which may have a missing text.
-fn element(alloc: Global, op: Op, miss: Miss, row: &Row<'_>) -> Result<Value, Stop>
-    requires makes { is_some (entry op).group ≡ true }
-    requires texts { gives_texts miss ≡ true }
+fn element(alloc: Global, op: Op, miss: Miss, row: &Row<'_>) -> Result<Cell, Stop>
+    requires { is_some (entry op).group ≡ true }
     ensures { GivesElement result (element_of (record { miss = Some miss; blank = row.now.blank }) op row.now) }
 {
     if !row.any_missing() {
         return computed(alloc, op, row);
     }
     match miss {
-        Miss::Gone => Ok(Value::Missing),
+        Miss::Gone => Ok(Cell::Value(Value::Missing)),
         Miss::AsText => computed(alloc, op, row),
+        Miss::No => Ok(Cell::Flag(false)),
+        Miss::Yes => Ok(Cell::Flag(true)),
         Miss::Refuse => Err(Stop::Refused(Refusal::MissingValue)),
-        Miss::No | Miss::Yes => unreachable!(),
     }
 }
 
-/// What a call that makes texts computes of a row.
-fn computed(alloc: Global, op: Op, row: &Row<'_>) -> Result<Value, Stop>
-    requires makes { is_some (entry op).group ≡ true }
+/// What a call computes of a row.
+fn computed(alloc: Global, op: Op, row: &Row<'_>) -> Result<Cell, Stop>
+    requires { is_some (entry op).group ≡ true }
     ensures { GivesElement result ((entry op).element row.now) }
 {
     match op {
@@ -84,27 +97,72 @@ fn computed(alloc: Global, op: Op, row: &Row<'_>) -> Result<Value, Stop>
         Op::Strip => kept(strip(alloc, row.text(0), row.text_if(1))),
         Op::Lstrip => kept(lstrip(alloc, row.text(0), row.text_if(1))),
         Op::Rstrip => kept(rstrip(alloc, row.text(0), row.text_if(1))),
-        Op::Set | Op::Copy | Op::Show | Op::Stats(_) | Op::Image(_) => unreachable!(),
+        Op::Replace => {
+            let texts = (row.text(0), row.text(1), row.text(2));
+            made(replace(alloc, texts.0, texts.1, texts.2, row.number(3)))
+        }
+        _ => told(op, row),
     }
 }
 
 /// The element that a text is, or that is too long.
-fn made(text: Result<Text, EditError>) -> Result<Value, Stop>
+fn made(text: Result<Text, EditError>) -> Result<Cell, Stop>
     ensures { (defined : List ℕ) → GivesText text (made defined) → GivesElement result (made_element defined) }
 {
     match text {
-        Ok(text) => Ok(Value::Of(text)),
+        Ok(text) => Ok(Cell::Value(Value::Of(text))),
         Err(EditError::TooLong) => Err(Stop::Refused(Refusal::TooLong)),
         Err(EditError::Memory) => Err(Stop::Memory),
     }
 }
 
 /// The element that a text is.
-fn kept(text: Result<Text, Memory>) -> Result<Value, Stop>
+fn kept(text: Result<Text, Memory>) -> Result<Cell, Stop>
     ensures { (defined : List ℕ) → IfOk text (λ t. t ≡ defined) → GivesElement result (kept_element defined) }
 {
     match text {
-        Ok(text) => Ok(Value::Of(text)),
+        Ok(text) => Ok(Cell::Value(Value::Of(text))),
         Err(_) => Err(Stop::Memory),
+    }
+}
+
+/// What a call that makes no texts computes of a row.
+fn told(op: Op, row: &Row<'_>) -> Result<Cell, Stop>
+    requires { tells (entry op).results ≡ true }
+    ensures { GivesElement result ((entry op).element row.now) }
+{
+    let a = row.text(0);
+    let b = row.text(1);
+    let start = row.number(2);
+    let end = row.number(3);
+    match op {
+        Op::Find => Ok(Cell::Number(find(a, b, start, end))),
+        Op::Rfind => Ok(Cell::Number(rfind(a, b, start, end))),
+        Op::Index => placed(index(a, b, start, end)),
+        Op::Rindex => placed(rindex(a, b, start, end)),
+        Op::Count => Ok(Cell::Number(count(a, b, start, end))),
+        Op::Starts => Ok(Cell::Flag(starts(a, b, start, end))),
+        Op::Ends => Ok(Cell::Flag(ends(a, b, start, end))),
+        Op::Equal => Ok(Cell::Flag(compare(a, b).is_eq())),
+        Op::NotEqual => Ok(Cell::Flag(compare(a, b).is_ne())),
+        Op::Less => Ok(Cell::Flag(compare(a, b).is_lt())),
+        Op::LessEqual => Ok(Cell::Flag(compare(a, b).is_le())),
+        Op::Greater => Ok(Cell::Flag(compare(a, b).is_gt())),
+        Op::GreaterEqual => Ok(Cell::Flag(compare(a, b).is_ge())),
+        Op::IsAlpha => Ok(Cell::Flag(is_alpha(a))),
+        Op::IsDecimal => Ok(Cell::Flag(is_decimal(a))),
+        Op::IsAlnum => Ok(Cell::Flag(is_alnum(a))),
+        Op::IsSpace => Ok(Cell::Flag(is_space(a))),
+        _ => unreachable!(),
+    }
+}
+
+/// The element that a place is; without one it is refused.
+fn placed(place: Option<i64>) -> Result<Cell, Stop>
+    ensures { GivesElement result (place_element place) }
+{
+    match place {
+        Some(place) => Ok(Cell::Number(place)),
+        None => Err(Stop::Refused(Refusal::NotFound)),
     }
 }

@@ -1,8 +1,6 @@
 ghost use Rattle.std.specs.Prelude.{ℕ, ◌≡◌, ◌≤◌, List, length, map, nat_lt, IfOk, Ok, Some, true, if◌then◌else◌};
 ghost use Rattle.std.specs.List.{All};
-ghost use Rattle.sa_text.specs.Values.{item_of};
 ghost use Rattle.sa_plain.specs.Items.{count_of, items_of};
-ghost use Rattle.sa_descr.specs.declared.missing.MissGroup.TheVariants.{Makes};
 ghost use Rattle.sa_call.specs.Calls.{elements_in, operand_count};
 ghost use Rattle.sa_call.specs.Columns.{columns_read, columns_weight, outcome_read};
 ghost use Rattle.sa_call.specs.Decides.{decide, done, outcome_of, outcome_on, refused_with};
@@ -12,7 +10,7 @@ ghost use Rattle.sa_call.specs.Limits.{most_entries, most_items, most_weight};
 ghost use Rattle.sa_base.specs.Deeds.{picture_weight};
 ghost use Rattle.sa_call.specs.Told.{parts_told, view_counts, AreOperands, AreWeights};
 ghost use Rattle.sa_call.specs.Valid.{IsCall, all_values};
-ghost use Rattle.sa_call.specs.declared.form.Gives.TheVariants.{Same};
+ghost use Rattle.sa_call.specs.declared.form.Gives.TheVariants.{Items as GivesItems};
 ghost use Rattle.sa_call.specs.declared.reply.Refusal.TheVariants.{TooMuch};
 ghost use Rattle.sa_call.specs.declared.reply.Reply.TheVariants.{Pictured};
 
@@ -28,7 +26,6 @@ use crate::walking::{Halt, walk};
 use sa_base::Memory;
 use sa_descr::{MissGroup, miss_of};
 use sa_plain::Items;
-use sa_text::ValueList;
 use sa_view::broadcast;
 use std::alloc::Global;
 
@@ -75,7 +72,7 @@ fn evaluate_items(
 ) -> Result<Outcome, Memory>
     requires declared { IsDeclared decls.now }
     requires call { IsCall decls.now call.now }
-    requires items { (entry call.now.op).gives ≡ Same }
+    requires items { (entry call.now.op).gives ≡ GivesItems }
     requires lists { map count_of lists.now ≡ view_counts call.now.operands }
     requires values { all_values lists.now ≡ true }
     ensures { IfOk result (λ o. o ≡ outcome_read decls.now call.now (columns_read call.now.operands lists.now)) }
@@ -116,7 +113,7 @@ fn moved(
     let forbidden = forbids(decls, &call.out);
     match results_refusal(forbidden, weight, &results) {
         Some((cause, at)) => Ok(Outcome::refused(cause, at)),
-        None => Ok(given(call, results)),
+        None => Ok(given(call, Items::Values(results))),
     }
 }
 
@@ -132,7 +129,6 @@ fn made(
     requires declared { IsDeclared decls.now }
     requires call { IsCall decls.now call.now }
     requires group { (entry call.now.op).group ≡ Some group }
-    requires makes { group ≡ Makes }
     requires light { weight ≤ most_weight }
     ensures { IfOk result (λ o. o ≡ outcome_on decls.now call.now weight (map (λ c. items_of c.now) columns.now)) }
 {
@@ -152,10 +148,9 @@ fn made(
 }
 
 /// Results that are not refused: for the output, or the answer where there is none.
-fn given(call: &Call, results: ValueList) -> Outcome
-    ensures { result ≡ outcome_of call.now.out (Ok (map item_of results)) }
+fn given(call: &Call, results: Items) -> Outcome
+    ensures { result ≡ outcome_of call.now.out (Ok results) }
 {
-    let results = Items::Values(results);
     match call.out {
         Some(_) => Outcome {
             results: Some(results),

@@ -7,6 +7,7 @@
 #![tactic(auto)]
 
 mod call;
+mod cell;
 mod columns;
 mod decls;
 mod element;
@@ -16,6 +17,7 @@ mod laws;
 mod operands;
 mod refusals;
 mod reply;
+mod results;
 mod row;
 mod rules;
 mod walking;
@@ -23,7 +25,7 @@ mod walking;
 pub use call::{Call, CallList, Op, Operand, OperandList, TaskList};
 pub use decls::{ArrayDecl, Decls, Kind};
 pub use evaluating::evaluate;
-pub use form::{Form, Gives, Into, Sort};
+pub use form::{Form, Gives, Into, Results, Sort};
 pub use laws::parts_decide;
 pub use operands::{EntryList, Operands, Picture};
 pub use refusals::MOST_WEIGHT;

@@ -17,6 +17,8 @@ pub enum Refusal {
     TooLong,
     /// What the call reads and gives weighs more than 1,048,576.
     TooMuch,
+    /// A text that is sought does not stand in another.
+    NotFound,
 }
 
 impl Refusal {
@@ -29,6 +31,7 @@ impl Refusal {
             Refusal::MissingValue => 2,
             Refusal::TooLong => 3,
             Refusal::TooMuch => 4,
+            Refusal::NotFound => 9,
         }
     }
 }

@@ -18,7 +18,7 @@ use std::test::Fail;
 
 #[test]
 fn words_mean_calls(rt: HostRuntime) {
-    let words: [(&[u8], Option<Op>); 15] = [
+    let words: [(&[u8], Option<Op>); 33] = [
         (b"set", Some(Op::Set)),
         (b"copy", Some(Op::Copy)),
         (b"show", Some(Op::Show)),
@@ -31,6 +31,24 @@ fn words_mean_calls(rt: HostRuntime) {
         (b"strip", Some(Op::Strip)),
         (b"lstrip", Some(Op::Lstrip)),
         (b"rstrip", Some(Op::Rstrip)),
+        (b"replace", Some(Op::Replace)),
+        (b"find", Some(Op::Find)),
+        (b"rfind", Some(Op::Rfind)),
+        (b"index", Some(Op::Index)),
+        (b"rindex", Some(Op::Rindex)),
+        (b"count", Some(Op::Count)),
+        (b"starts", Some(Op::Starts)),
+        (b"ends", Some(Op::Ends)),
+        (b"equal", Some(Op::Equal)),
+        (b"not_equal", Some(Op::NotEqual)),
+        (b"less", Some(Op::Less)),
+        (b"less_equal", Some(Op::LessEqual)),
+        (b"greater", Some(Op::Greater)),
+        (b"greater_equal", Some(Op::GreaterEqual)),
+        (b"isalpha", Some(Op::IsAlpha)),
+        (b"isdecimal", Some(Op::IsDecimal)),
+        (b"isalnum", Some(Op::IsAlnum)),
+        (b"isspace", Some(Op::IsSpace)),
         (b"stats", Some(Op::Stats(0))),
         (b"image", Some(Op::Image(0))),
         (b"sets", None),
@@ -47,14 +65,17 @@ fn words_mean_calls(rt: HostRuntime) {
 #[test]
 fn calls_have_their_forms(rt: HostRuntime) {
     let forms = [
-        (Op::Set, Sort::Literal, 1, 0, Into::First, Gives::Same),
-        (Op::Copy, Sort::View, 1, 0, Into::Must, Gives::Same),
-        (Op::Show, Sort::View, 1, 0, Into::Never, Gives::Same),
-        (Op::Add, Sort::Texts, 2, 0, Into::May, Gives::Same),
-        (Op::Multiply, Sort::Texts, 2, 0, Into::May, Gives::Same),
-        (Op::Center('x'), Sort::Texts, 2, 1, Into::May, Gives::Same),
-        (Op::Zfill, Sort::Texts, 2, 0, Into::May, Gives::Same),
-        (Op::Rstrip, Sort::Texts, 1, 1, Into::May, Gives::Same),
+        (Op::Set, Sort::Literal, 1, 0, Into::First, Gives::Items),
+        (Op::Copy, Sort::View, 1, 0, Into::Must, Gives::Items),
+        (Op::Show, Sort::View, 1, 0, Into::Never, Gives::Items),
+        (Op::Add, Sort::Texts, 2, 0, Into::May, Gives::Items),
+        (Op::Multiply, Sort::Texts, 2, 0, Into::May, Gives::Items),
+        (Op::Center('x'), Sort::Texts, 2, 1, Into::May, Gives::Items),
+        (Op::Zfill, Sort::Texts, 2, 0, Into::May, Gives::Items),
+        (Op::Rstrip, Sort::Texts, 1, 1, Into::May, Gives::Items),
+        (Op::Replace, Sort::Texts, 3, 1, Into::May, Gives::Items),
+        (Op::Count, Sort::Texts, 2, 2, Into::May, Gives::Items),
+        (Op::Less, Sort::Texts, 2, 0, Into::May, Gives::Items),
         (
             Op::Stats(1),
             Sort::Descr,

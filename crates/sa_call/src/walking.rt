@@ -1,15 +1,16 @@
 ghost use Rattle.std.specs.Prelude.{◌≡◌, ◌≤◌, map, is_some, Some, true};
 ghost use Rattle.sa_plain.specs.Items.{items_of};
-ghost use Rattle.sa_call.specs.Elements.{elements, gathered, gives_texts};
+ghost use Rattle.sa_call.specs.Decides.{results_as};
+ghost use Rattle.sa_call.specs.Elements.{elements, gathered};
 ghost use Rattle.sa_call.specs.Forms.{entry};
 ghost use Rattle.sa_call.specs.Limits.{most_weight};
 ghost use Rattle.sa_call.specs.Walks.{GivesResults, halt_at};
 
 use crate::element::{Setting, Stop, result_at};
 use crate::reply::Refusal;
+use crate::results::ResultList;
 use crate::row::Row;
 use sa_plain::Items;
-use sa_text::{ValueList, value_weight};
 use std::alloc::Global;
 
 /// Why a call has no results.
@@ -21,21 +22,20 @@ pub(crate) enum Halt {
     Refused(Refusal, u32),
 }
 
-/// The results of a call that makes texts, one for each of so many elements, behind operands of this
-/// weight; or the first refusal.
+/// The results of a call of a group of missing values, one for each of so many elements, behind operands of
+/// this weight; or the first refusal.
 pub(crate) fn walk<'x>(
     alloc: Global,
     setting: &'x Setting,
     columns: &'x [&'x Items],
     weight: u64,
     count: u32,
-) -> Result<ValueList, Halt>
-    requires makes { is_some (entry setting.now.op).group ≡ true }
-    requires texts { gives_texts setting.now.miss ≡ true }
+) -> Result<Items, Halt>
+    requires computes { is_some (entry setting.now.op).group ≡ true }
     requires light { weight ≤ most_weight }
-    ensures { GivesResults result (gathered setting.now.forbidden weight 0 (elements (record { miss = Some setting.now.miss; blank = setting.now.blank }) setting.now.op (map (λ c. items_of c.now) columns.now) count)) }
+    ensures { GivesResults result (results_as (entry setting.now.op).results (gathered setting.now.forbidden weight 0 (elements (record { miss = Some setting.now.miss; blank = setting.now.blank }) setting.now.op (map (λ c. items_of c.now) columns.now) count))) }
 {
-    let mut results = ValueList::new(alloc);
+    let mut results = ResultList::new(alloc, setting.op.form().results);
     let mut weight = weight;
     for at in 0..count {
         let row = Row {
@@ -43,17 +43,17 @@ pub(crate) fn walk<'x>(
             at: at as usize,
             blank: &setting.blank,
         };
-        let value = match result_at(alloc, setting, &row, weight) {
-            Ok(value) => value,
+        let cell = match result_at(alloc, setting, &row, weight) {
+            Ok(cell) => cell,
             Err(stop) => return Err(stop.at(at)),
         };
-        weight += value_weight(&value);
-        match results.push(value) {
+        weight += cell.weight();
+        match results.push(cell) {
             Ok(()) => {}
             Err(_) => return Err(Halt::Memory),
         }
     }
-    Ok(results)
+    Ok(results.into_items())
 }
 
 impl Stop {

@@ -34,17 +34,17 @@ use Rattle.sa_loop.proofs.RereadLemmas.{places-of-items, taken-there, there, wei
 -- the kind of a call, by what was read for it
 
 abbrev pub is_same : Gives → Bool
-is_same gives.Same = true
+is_same gives.Items = true
 is_same gives.Statistics = false
 is_same gives.Picture = false
 
 abbrev pub is_statistics : Gives → Bool
-is_statistics gives.Same = false
+is_statistics gives.Items = false
 is_statistics gives.Statistics = true
 is_statistics gives.Picture = false
 
 abbrev pub is_picture : Gives → Bool
-is_picture gives.Same = false
+is_picture gives.Items = false
 is_picture gives.Statistics = false
 is_picture gives.Picture = true
 
@@ -254,24 +254,24 @@ weighed-at decls call (k ∷ ds) (w ∷ ws) d same once =
 
 reread-weighed : (g : Gives) (decls : Declared) (c : Contents) (call : Call) (d w : ℕ) → has_weight g ≡ true → IsDeclared decls → list_all (is_operand_of decls) call.operands ≡ true → HasShape decls d c.layout
     → reread c (weighed_by g (places_told decls d call.operands) w) ≡ part_by g decls (shown c.layout) call true d
-reread-weighed gives.Same decls c call d w has declared views shape = ap (Weighed (places_told decls d call.operands)) (weight-there decls c d call.operands declared views shape)
+reread-weighed gives.Items decls c call d w has declared views shape = ap (Weighed (places_told decls d call.operands)) (weight-there decls c d call.operands declared views shape)
 reread-weighed gives.Statistics decls c call d w has declared views shape = absurd (false≢true has)
 reread-weighed gives.Picture decls c call d w has declared views shape = refl
 
 reread-items : (g : Gives) (decls : Declared) (c : Contents) (call : Call) (d : ℕ) (xs : List (Place × Item)) → is_same g ≡ true → IsDeclared decls → list_all (is_operand_of decls) call.operands ≡ true → HasShape decls d c.layout
     → map (λ (i : Place × Item). i.0) xs ≡ places_told decls d call.operands → reread c (Read xs) ≡ part_by g decls (shown c.layout) call false d
-reread-items gives.Same decls c call d xs has declared views shape places =
+reread-items gives.Items decls c call d xs has declared views shape places =
     ap (λ ys. Read ys) (sym (map-map (there c) (λ (i : Place × Item). i.0) xs) ∙ ap (map (there c)) places ∙ sym (taken-there decls c d call.operands declared views shape))
 reread-items gives.Statistics decls c call d xs has declared views shape places = absurd (false≢true has)
 reread-items gives.Picture decls c call d xs has declared views shape places = absurd (false≢true has)
 
 reread-counted : (g : Gives) (decls : Declared) (c : Contents) (call : Call) (d : ℕ) (stats : Stats) → is_statistics g ≡ true → reread c (Counted stats) ≡ part_by g decls (shown c.layout) call false d
-reread-counted gives.Same decls c call d stats is = absurd (false≢true is)
+reread-counted gives.Items decls c call d stats is = absurd (false≢true is)
 reread-counted gives.Statistics decls c call d stats is = refl
 reread-counted gives.Picture decls c call d stats is = absurd (false≢true is)
 
 reread-pictured : (g : Gives) (decls : Declared) (c : Contents) (call : Call) (d : ℕ) (entries : List (List ℕ)) (arena : List ℕ) → is_picture g ≡ true → reread c (Pictured entries arena) ≡ part_by g decls (shown c.layout) call false d
-reread-pictured gives.Same decls c call d entries arena is = absurd (false≢true is)
+reread-pictured gives.Items decls c call d entries arena is = absurd (false≢true is)
 reread-pictured gives.Statistics decls c call d entries arena is = absurd (false≢true is)
 reread-pictured gives.Picture decls c call d entries arena is = refl
 

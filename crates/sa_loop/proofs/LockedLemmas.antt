@@ -240,7 +240,7 @@ can-plan decls call parts outcome h declared valid came held shapes = go call.ou
         let known = view-known decls v (ap (is_output_of decls) (sym at_out) ∙ valid.into) in
         let given : (decide decls call parts).results ≡ Some items = ap (λ (o : Outcome). o.results) (sym came) ∙ at_results in
         let named = output-named decls call home (ap (output_is_at decls home) at_out ∙ eq-eqb home home refl) in
-        (held home named, record { declared = declared; array = known.0; view = known.1; shape = shapes home named }, results-many decls call parts v items valid at_out given, results-values decls call parts v items at_out given)
+        (held home named, record { declared = declared; array = known.0; view = known.1; shape = shapes home named }, results-many decls call parts v items valid at_out given, results-values decls call parts v items valid at_out given)
 
 -- a planned put is what the results of the call write
 pub plan-at : {number : ℕ} (decls : Declared) (v : View) (items : Items) (plan : PlanValue) (d : ℕ) → number ≡ home_of decls v.array → puts_told decls v items ≡ map (write_of plan.array) plan.puts

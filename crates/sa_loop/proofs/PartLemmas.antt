@@ -51,8 +51,8 @@ taken-weighs decls s d (operand.View v ∷ os) =
     ]
 
 part-tells : (g : Gives) (decls : Declared) (s : State) (call : Call) (heavy : Bool) (d : ℕ) → part_weight (part_by g decls s call heavy d) ≡ weight_by g decls s call d
-part-tells gives.Same decls s call true d = refl
-part-tells gives.Same decls s call false d = taken-weighs decls s d call.operands
+part-tells gives.Items decls s call true d = refl
+part-tells gives.Items decls s call false d = taken-weighs decls s d call.operands
 part-tells gives.Statistics decls s call heavy d = refl
 part-tells gives.Picture decls s call true d = refl
 part-tells gives.Picture decls s call false d = refl

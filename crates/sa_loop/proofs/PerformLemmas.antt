@@ -112,7 +112,7 @@ can-put decls stores calls call parts outcome is declared valid came = go call.o
         let below = home-declared decls v.array declared known.0 in
         let many = many-stores decls stores calls is in
         let given : (decide decls call parts).results ≡ Some items = ap (λ (o : Outcome). o.results) (sym came) ∙ at_results in
-        (omega arith, record { declared = declared; array = known.0; view = known.1; shape = shape-at decls stores calls (home_of decls v.array) is below }, results-many decls call parts v items valid at_out given, results-values decls call parts v items at_out given)
+        (omega arith, record { declared = declared; array = known.0; view = known.1; shape = shape-at decls stores calls (home_of decls v.array) is below }, results-many decls call parts v items valid at_out given, results-values decls call parts v items valid at_out given)
 
 -- the world that the stores show is the play's, where descriptors are declared
 pub agree : (decls : Declared) (stores : List StoreValue) (calls : List Call) → IsRun decls stores calls → Agree decls (world_of (layout_in stores)) (play_world decls calls)
@@ -221,7 +221,7 @@ results-there decls stores stores' calls call outcome run declared valid came is
         let given : (outcome_in decls (world_of (layout_in stores)) call).results ≡ Some items = ap (λ (o : Outcome). o.results) (sym came) ∙ at_results in
         let parts = parts_of decls (world_of (layout_in stores)) call in
         let many = results-many decls call parts v items valid at_out given in
-        let values = values-are items (results-values decls call parts v items at_out given) in
+        let values = values-are items (results-values decls call parts v items valid at_out given) in
         let shape = shape-at decls stores calls h run below in
         let same : shown (layout_in stores' h) ≡ written (shown (layout_in stores h)) (puts_told decls v items) =
         is.shows h below
@@ -229,7 +229,7 @@ results-there decls stores stores' calls call outcome run declared valid came is
         ∙ (ap (λ (o : Option View). written (shown (layout_in stores h)) (writes_at (writes_told decls o (Some items)) h)) at_out
         ∙ ap (λ (b : Bool). written (shown (layout_in stores h)) (cond b (puts_told decls v items) [])) (eq-eqb h h refl))) in
         sym (ap (λ s. read_at Missing (array_in s (index_at_home decls v.array)) (places_of v)) (same ∙ ap (λ (i : Items). written (shown (layout_in stores h)) (puts_told decls v i)) (sym values))
-        ∙ put-there decls v (layout_in stores h) (values_of items) shape known.0 known.1 (counts-are items (results-values decls call parts v items at_out given) ∙ many))
+        ∙ put-there decls v (layout_in stores h) (values_of items) shape known.0 known.1 (counts-are items (results-values decls call parts v items valid at_out given) ∙ many))
 
 -- acts under the same declarations with one more
 pub alike-more : (decls : Declared) (acts : List Act) (act : Act) → map (λ (a : Act). a.decls.now) acts ≡ replicate (length acts) decls → act.decls.now ≡ decls → map (λ (a : Act). a.decls.now) (acts ++ act ∷ []) ≡ replicate (length (acts ++ act ∷ [])) decls

@@ -102,8 +102,8 @@ weight-there decls c d os declared views shape =
 -- a part of a valid call, read again, is the same
 pub reread-part : (g : Gives) (decls : Declared) (c : Contents) (call : Call) (heavy : Bool) (d : ℕ) → IsDeclared decls → list_all (is_operand_of decls) call.operands ≡ true → HasShape decls d c.layout
     → reread c (part_by g decls (shown c.layout) call heavy d) ≡ part_by g decls (shown c.layout) call heavy d
-reread-part gives.Same decls c call true d declared views shape = ap (Weighed (places_told decls d call.operands)) (weight-there decls c d call.operands declared views shape)
-reread-part gives.Same decls c call false d declared views shape =
+reread-part gives.Items decls c call true d declared views shape = ap (Weighed (places_told decls d call.operands)) (weight-there decls c d call.operands declared views shape)
+reread-part gives.Items decls c call false d declared views shape =
     let taken = taken-there decls c d call.operands declared views shape in
     ap (λ xs. Read (map (λ (i : Place × Item). there c i.0) xs)) taken ∙ ap (λ xs. Read xs) (again-there c (places_told decls d call.operands)) ∙ ap (λ xs. Read xs) (sym taken)
 reread-part gives.Statistics decls c call heavy d declared views shape = refl

@@ -73,7 +73,7 @@ are-short decls call none valid =
 
 -- what a call gives
 
-pub given-same : (o : Op) → descr_of o ≡ None → (entry o).gives ≡ gives.Same
+pub given-same : (o : Op) → descr_of o ≡ None → (entry o).gives ≡ gives.Items
 given-same o none = (on-none o none).gives
 
 pub given-statistics : (o : Op) → is_some (descr_of o) ≡ true → ((entry o).gives ≡ gives.Picture → ⊥) → (entry o).gives ≡ gives.Statistics
@@ -116,7 +116,7 @@ abbrev each : (ℕ → Part) → List ℕ → Parts
 each f ds = map (λ d. (d, f d)) ds
 
 weighed-one : (g : Gives) (decls : Declared) (s : State) (call : Call) (d : ℕ) → (g ≡ gives.Statistics → ⊥) → weighed_by g (places_told decls d call.operands) (weight_by g decls s call d) ≡ part_by g decls s call true d
-weighed-one gives.Same decls s call d other = refl
+weighed-one gives.Items decls s call d other = refl
 weighed-one gives.Statistics decls s call d other = absurd (other refl)
 weighed-one gives.Picture decls s call d other = refl
 
@@ -127,12 +127,12 @@ weighed-same decls w call (d ∷ ds) other =
     ap (λ (p : Part). (d, p) ∷ weighed_parts decls call ds (map (λ k. weight decls (w k) call k) ds)) (weighed-one (entry call.op).gives decls (w d) call d other)
     ∙ ap (λ (ps : Parts). (d, part decls (w d) call true d) ∷ ps) (weighed-same decls w call ds other)
 
-read-same : (g : Gives) (decls : Declared) (w : World) (call : Call) (d : ℕ) → g ≡ gives.Same → Read (items_told decls d call.operands (views_read decls w call.operands)) ≡ part_by g decls (w d) call false d
-read-same gives.Same decls w call d same = ap (λ items. Read items) (items-same decls w d call.operands)
+read-same : (g : Gives) (decls : Declared) (w : World) (call : Call) (d : ℕ) → g ≡ gives.Items → Read (items_told decls d call.operands (views_read decls w call.operands)) ≡ part_by g decls (w d) call false d
+read-same gives.Items decls w call d same = ap (λ items. Read items) (items-same decls w d call.operands)
 read-same gives.Statistics decls w call d same = cc
 read-same gives.Picture decls w call d same = cc
 
-reads-same : (decls : Declared) (w : World) (call : Call) (ds : List ℕ) → (entry call.op).gives ≡ gives.Same
+reads-same : (decls : Declared) (w : World) (call : Call) (ds : List ℕ) → (entry call.op).gives ≡ gives.Items
     → each (λ d. Read (items_told decls d call.operands (views_read decls w call.operands))) ds ≡ each (λ d. part decls (w d) call false d) ds
 reads-same decls w call ds same = ap (λ (f : ℕ → Part). each f ds) (λ i d. read-same (entry call.op).gives decls w call d same i)
 
@@ -155,7 +155,7 @@ told-light decls w call parts are light =
 
 -- what is not statistics has a weight
 weighs : (g : Gives) → (g ≡ gives.Statistics → ⊥) → has_weight g ≡ true
-weighs gives.Same other = refl
+weighs gives.Items other = refl
 weighs gives.Statistics other = absurd (other refl)
 weighs gives.Picture other = refl
 
@@ -178,7 +178,7 @@ taken-heavy decls layouts call weights total other are sums heavy =
     }
 
 -- what does not is taken as its items
-pub taken-light : (decls : Declared) (layouts : ℕ → Layout) (call : Call) (weights : List ℕ) (total : ℕ) (lists : List Items) (none : List ℕ) → (entry call.op).gives ≡ gives.Same → weights ≡ weights_in decls (world_of layouts) call
+pub taken-light : (decls : Declared) (layouts : ℕ → Layout) (call : Call) (weights : List ℕ) (total : ℕ) (lists : List Items) (none : List ℕ) → (entry call.op).gives ≡ gives.Items → weights ≡ weights_in decls (world_of layouts) call
     → sum weights + sum_by literal_weight call.operands ≡ total → total ≤ 1048576 → lists ≡ views_read decls (world_of layouts) call.operands → IsTaken decls layouts call (operands.Items lists) none
 taken-light decls layouts call weights total lists none same are sums light read =
     let w = world_of layouts in
@@ -228,12 +228,12 @@ home-alone decls call number valid at =
     named-by os out o k = (list_any (operand_is_at decls k) os || output_is_at decls k out) || is_number k o
 
 part-counted : (g : Gives) (decls : Declared) (s : State) (call : Call) (heavy : Bool) (d : ℕ) → g ≡ gives.Statistics → part_by g decls s call heavy d ≡ Counted (stats_of s.layout)
-part-counted gives.Same decls s call heavy d is = cc
+part-counted gives.Items decls s call heavy d is = cc
 part-counted gives.Statistics decls s call heavy d is = refl
 part-counted gives.Picture decls s call heavy d is = cc
 
 part-pictured : (g : Gives) (decls : Declared) (s : State) (call : Call) (d : ℕ) → g ≡ gives.Picture → (part_by g decls s call false d ≡ Pictured (entry_images s.layout) (arena_image s.layout)) × (weight_by g decls s call d ≡ picture_weight (entry_images s.layout) (arena_image s.layout))
-part-pictured gives.Same decls s call d is = cc
+part-pictured gives.Items decls s call d is = cc
 part-pictured gives.Statistics decls s call d is = cc
 part-pictured gives.Picture decls s call d is = (refl, refl)
 

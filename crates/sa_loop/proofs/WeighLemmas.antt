@@ -83,7 +83,7 @@ sum-more xs ys one before now is more then' =
     let last = sum_by_push (λ x. x) xs one in
     omega arith
 
-pub weight-same : (g : Gives) (decls : Declared) (s : State) (call : Call) (d : ℕ) → g ≡ gives.Same → weight_by g decls s call d ≡ weight_taken decls s d call.operands
-weight-same gives.Same decls s call d same = refl
+pub weight-same : (g : Gives) (decls : Declared) (s : State) (call : Call) (d : ℕ) → g ≡ gives.Items → weight_by g decls s call d ≡ weight_taken decls s d call.operands
+weight-same gives.Items decls s call d same = refl
 weight-same gives.Statistics decls s call d same = cc
 weight-same gives.Picture decls s call d same = cc

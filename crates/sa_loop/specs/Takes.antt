@@ -39,7 +39,7 @@ weight_taken decls s d (operand.View v ∷ os) = (if home_of decls v.array == d 
 weight_taken decls s d (operand.Literal items ∷ os) = weight_taken decls s d os
 
 abbrev pub part_by : Gives → Declared → State → Call → Bool → ℕ → Part
-part_by gives.Same decls s call heavy d = if heavy then Weighed (places_told decls d call.operands) (weight_taken decls s d call.operands) else Read (items_taken decls s d call.operands)
+part_by gives.Items decls s call heavy d = if heavy then Weighed (places_told decls d call.operands) (weight_taken decls s d call.operands) else Read (items_taken decls s d call.operands)
 part_by gives.Statistics decls s call heavy d = Counted (stats_of s.layout)
 part_by gives.Picture decls s call heavy d = if heavy then PictureWeighed (picture_weight (entry_images s.layout) (arena_image s.layout)) else Pictured (entry_images s.layout) (arena_image s.layout)
 
@@ -48,7 +48,7 @@ abbrev pub part : Declared → State → Call → Bool → ℕ → Part
 part decls s call heavy d = part_by (entry call.op).gives decls s call heavy d
 
 abbrev pub weight_by : Gives → Declared → State → Call → ℕ → ℕ
-weight_by gives.Same decls s call d = weight_taken decls s d call.operands
+weight_by gives.Items decls s call d = weight_taken decls s d call.operands
 weight_by gives.Statistics decls s call d = 0
 weight_by gives.Picture decls s call d = picture_weight (entry_images s.layout) (arena_image s.layout)
 

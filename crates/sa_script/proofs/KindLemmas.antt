@@ -1,6 +1,7 @@
 -- The kinds of operands, sort by sort.
-use Rattle.std.proofs.Common.{◌≡◌, ℕ, zero, suc, ◌<◌, ◌+◌, Bool, true, false, cond, ◌||◌, ◌&&◌, eqb, List, [], ◌∷◌, ◌++◌, length, take, drop, get_or, replicate, Option, Some, None, refl, sym, ap, ◌∙◌}
+use Rattle.std.proofs.Common.{◌≡◌, ℕ, zero, suc, ◌<◌, arith, ◌+◌, Bool, true, false, cond, ◌||◌, ◌&&◌, eqb, List, [], ◌∷◌, ◌++◌, length, take, drop, get_or, replicate, Option, Some, None, refl, sym, ap, ◌∙◌}
 use Rattle.std.specs.List.{filter, list_any}
+use Rattle.std.proofs.lemmas.Bool.{ne_eqb}
 use Rattle.std.proofs.lemmas.List.{at_drop_more}
 use Rattle.sa_text.specs.declared.value.Value.{Value}
 use Rattle.sa_text.specs.Values.{is_missing, stretched}
@@ -54,6 +55,17 @@ all_kinds (s ∷ ss) (o ∷ os) = go (is_operand s) (all_kinds ss os) (all_kinds
 
 pub kinds_fit-is : (o : Op) (os : List Operand) → kinds_fit o os ≡ is_read (kinds_then (entry o).may (kinds_read (entry o).needs os))
 kinds_fit-is o os = all_kinds ((entry o).needs ++ (entry o).may) os ∙ ap is_read (kinds_read-append (entry o).needs (entry o).may os)
+
+-- by what is left behind the operands that are needed, and behind those that may be left out
+pub kinds-told : (o : Op) (os rest : List Operand) (read : Option (List Operand)) → Some rest ≡ kinds_read (entry o).needs os → read ≡ kinds_read (entry o).may rest → is_read read ≡ kinds_fit o os
+kinds-told o os rest read first then = ap is_read (then ∙ ap (kinds_then (entry o).may) first) ∙ sym (kinds_fit-is o os)
+
+pub kinds-none : (o : Op) (os : List Operand) → None ≡ kinds_read (entry o).needs os → false ≡ kinds_fit o os
+kinds-none o os none = ap (λ read. is_read (kinds_then (entry o).may read)) none ∙ sym (kinds_fit-is o os)
+
+pub read-left : (os : List Operand) → is_read (Some os) ≡ eqb (length os) 0
+read-left [] = refl
+read-left (o ∷ os) = sym (ne_eqb (length (o ∷ os)) 0 (λ none. omega arith))
 
 -- a stretched list has a missing value where the list has
 same-or : (b : Bool) → (b || b) ≡ b

@@ -1,12 +1,12 @@
 -- The operands of a line, sort by sort.
-use Rattle.std.proofs.Common.{◌≡◌, ℕ, ◌+◌, ◌<◌, List, [], ◌∷◌, ◌++◌, length, get_or, drop, Option, Some, None, option_map, option_and_then, true, false, refl, sym, ap, ◌∙◌, append_assoc, append-nil}
+use Rattle.std.proofs.Common.{◌≡◌, ℕ, ℤ, ◌+◌, ◌<◌, List, [], ◌∷◌, ◌++◌, length, get_or, drop, Option, Some, None, option_map, option_and_then, true, false, refl, sym, ap, ◌∙◌, append_assoc, append-nil}
 use Rattle.std.proofs.lemmas.List.{at_drop_more}
 use Rattle.std.proofs.lemmas.Option.{same_Some}
 use Rattle.sa_call.specs.declared.call.Op.{Op}
 use Rattle.sa_call.specs.declared.form.Sort.{Sort}
 use Rattle.sa_call.specs.Forms.{entry}
 use Rattle.sa_script.specs.declared.statement.Term.{Term}
-use Rattle.sa_script.specs.Statements.{behind_terms, is_over, operands_of, others_of, term_of, terms_of}
+use Rattle.sa_script.specs.Statements.{behind_terms, is_over, left_out, operands_of, others_of, term_of, terms_of}
 
 pub terms-untold : (ss : List Sort) (k : ℕ) (ts : List (List ℕ)) (d : Sort) → k < length ss → ts ≡ [] → terms_of (drop k ss) ts ≡ None
 terms-untold ss k ts d below none = at_drop_more (λ (l : List Sort). terms_of l ts) ss k d below ∙ rw none refl
@@ -36,15 +36,15 @@ operands-none o ts e = go (terms_of (entry o).needs ts) refl e
     go None is e = rw is refl
     go (Some r) is e = cc
 
-pub operands-read : (o : Op) (ts rest : List (List ℕ)) (terms : List Term) → Some (terms, rest) ≡ behind_terms [] (terms_of (entry o).needs ts) → operands_of o ts ≡ behind_terms terms (others_of (entry o).may rest)
+pub operands-read : (o : Op) (ts rest : List (List ℕ)) (terms : List Term) → Some (terms, rest) ≡ behind_terms [] (terms_of (entry o).needs ts) → operands_of o ts ≡ behind_terms terms (others_of (entry o).may (entry o).defaults rest)
 operands-read o ts rest terms e = go (terms_of (entry o).needs ts) refl e
   where
-    go : (r : Option (List Term × List (List ℕ))) → terms_of (entry o).needs ts ≡ r → Some (terms, rest) ≡ behind_terms [] r → operands_of o ts ≡ behind_terms terms (others_of (entry o).may rest)
+    go : (r : Option (List Term × List (List ℕ))) → terms_of (entry o).needs ts ≡ r → Some (terms, rest) ≡ behind_terms [] r → operands_of o ts ≡ behind_terms terms (others_of (entry o).may (entry o).defaults rest)
     go None is e = cc
     go (Some r) is e = let same : r ≡ (terms, rest) = sym (same_Some (terms, rest) r e) in rw (is, same) refl
 
-pub others-over : (ss : List Sort) (ts : List (List ℕ)) (terms : List Term) → is_over ts ≡ true → behind_terms terms (others_of ss ts) ≡ Some (terms, ts)
-others-over ss ts terms over = rw (over, append-nil) refl
+pub others-over : (ss : List Sort) (ns : List ℤ) (ts : List (List ℕ)) (terms : List Term) → is_over ts ≡ true → behind_terms terms (others_of ss ns ts) ≡ Some (terms ++ left_out ns, ts)
+others-over ss ns ts terms over = rw over refl
 
-pub others-given : (ss : List Sort) (ts : List (List ℕ)) (terms : List Term) → is_over ts ≡ false → behind_terms terms (others_of ss ts) ≡ behind_terms terms (terms_of ss ts)
-others-given ss ts terms more = rw more refl
+pub others-given : (ss : List Sort) (ns : List ℤ) (ts : List (List ℕ)) (terms : List Term) → is_over ts ≡ false → behind_terms terms (others_of ss ns ts) ≡ behind_terms terms (terms_of ss ts)
+others-given ss ns ts terms more = rw more refl

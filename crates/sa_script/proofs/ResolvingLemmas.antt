@@ -10,7 +10,7 @@ use Rattle.sa_call.specs.declared.call.Call.{Call}
 use Rattle.sa_call.specs.declared.form.Sort.{Sort}
 use Rattle.sa_call.specs.declared.form.Sort.TheVariants as sort
 use Rattle.sa_call.specs.Forms.{on_descr}
-use Rattle.sa_call.specs.Valid.{IsLiteral, IsLiteralOperand, kinds_fit, rules_fit}
+use Rattle.sa_call.specs.Valid.{IsLiteral, IsLiteralOperand, call_kinds_fit, rules_fit}
 use Rattle.sa_plain.specs.declared.items.Items.{Items}
 use Rattle.sa_script.specs.declared.context.Context.{Context}
 use Rattle.sa_script.specs.declared.cause.Cause.{Cause}
@@ -101,7 +101,7 @@ call_fault-is c l r is = go r.unfit refl
 pub faultless-call : (c : Context) (slices : Bool) (r : Resolved) → call_fault c slices r ≡ None → (r.unfit ≡ false) × (nat_le most_calls c.calls ≡ false)
 faultless-call c slices r e =
     let is = go ((c.version == 1) && slices) (c.ended || not (has_tasks c)) r.misnamed (r.passes || nat_le most_calls c.calls) r.unfit
-    (cond (r.miskinded || not (kinds_fit r.call.op r.call.operands)) (Some cause.Kind) (cond (not (lengths_fit r.call)) (Some cause.Lengths) (cond (not (rules_fit (declared_in c) r.call)) (Some cause.Clash) (cond r.misfilled (Some cause.Fill) None)))) e in
+    (cond (r.miskinded || not (call_kinds_fit r.call)) (Some cause.Kind) (cond (not (lengths_fit r.call)) (Some cause.Lengths) (cond (not (rules_fit (declared_in c) r.call)) (Some cause.Clash) (cond r.misfilled (Some cause.Fill) None)))) e in
     (is.0, (or_parts r.passes (nat_le most_calls c.calls) is.1).1)
   where
     go : (a b d g u : Bool) (rest : Option Cause) → cond a (Some cause.Syntax) (cond b (Some cause.Order) (cond d (Some cause.Name) (cond g (Some cause.Limit) (cond u (Some cause.View) rest)))) ≡ None → (u ≡ false) × (g ≡ false)

@@ -11,7 +11,7 @@ use Rattle.sa_call.specs.declared.decls.ArrayDecl.{ArrayDecl}
 use Rattle.sa_call.specs.declared.call.Call.{Call}
 use Rattle.sa_call.specs.Calls.{lengths_fit}
 use Rattle.sa_call.specs.Decls.{Declared, entries_of, entries_at}
-use Rattle.sa_call.specs.Valid.{IsCall, kinds_fit, rules_fit}
+use Rattle.sa_call.specs.Valid.{IsCall, call_kinds_fit, rules_fit}
 use Rattle.sa_script.specs.declared.cause.Cause.TheVariants as cause
 use Rattle.sa_script.specs.declared.context.Context.{Context}
 use Rattle.sa_script.specs.declared.statement.Statement.{Statement}
@@ -248,9 +248,9 @@ adds_sound c (statement.Call l) s spelled e =
     let none = faultless c (statement.Call l) e in
     let order = or_parts c.ended (not (nat_lt 0 (length c.tasks))) none.second in
     let limit = or_parts (line_passes l) (nat_le 1024 c.calls) none.fourth in
-    let kinds = or_parts (line_miskinded l) (not (kinds_fit (call_in c l).op (call_in c l).operands)) none.sixth in
+    let kinds = or_parts (line_miskinded l) (not (call_kinds_fit (call_in c l))) none.sixth in
     call_after c (call_in c l) s order.1 limit.1
-    (line-valid c l s spelled none.third limit.0 none.fifth (not-false (kinds_fit (call_in c l).op (call_in c l).operands) kinds.1)
+    (line-valid c l s spelled none.third limit.0 none.fifth (not-false (call_kinds_fit (call_in c l)) kinds.1)
     (not-false (lengths_fit (call_in c l)) none.seventh) (not-false (rules_fit (declared_in c) (call_in c l)) none.eighth))
 adds_sound c statement.End s spelled e = record { version = s.version; sound = s.sound; counted = s.counted }
 

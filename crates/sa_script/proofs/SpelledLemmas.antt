@@ -1,5 +1,5 @@
 -- What a line spells: its names are names, its texts are texts, and its list is a literal where it passes no limit.
-use Rattle.std.proofs.Common.{◌≡◌, ◌≤◌, ◌⊎◌, inl, inr, ℕ, zero, suc, ℤ, Bool, true, false, cond, ◌&&◌, not, eqb, nat_lt, List, [], ◌∷◌, ◌++◌, length, Option, Some, None, option_map, is_some, is_none, Result, Ok, Err, codes, refl, sym, ap, subst, ◌∙◌, arith, length-append, append-nil}
+use Rattle.std.proofs.Common.{◌≡◌, ◌≤◌, ◌⊎◌, inl, inr, ℕ, zero, suc, ℤ, Bool, true, false, cond, ◌&&◌, not, eqb, nat_lt, List, [], ◌∷◌, ◌++◌, length, map, Option, Some, None, option_map, is_some, is_none, Result, Ok, Err, codes, refl, sym, ap, subst, ◌∙◌, arith, length-append, append-nil}
 use Rattle.std.specs.List.{AllByRecursion}
 use Rattle.std.specs.Option.{IfSome}
 use Rattle.std.proofs.lemmas.Bool.{ltb-true}
@@ -24,7 +24,7 @@ use Rattle.sa_script.specs.Items.{fitting, text_at, nothing_left, text_token, of
 use Rattle.sa_script.specs.Limits.{most_items}
 use Rattle.sa_script.specs.Names.{name_of, is_name, is_reserved}
 use Rattle.sa_script.specs.Sound.{IsRule}
-use Rattle.sa_script.specs.Spelled.{IsList, IsTerm, AreTerms, output_given, IsSpelled}
+use Rattle.sa_script.specs.Spelled.{IsList, IsTerm, AreTermsOf, AreTerms, output_given, IsSpelled}
 use Rattle.sa_script.specs.Views.{view_of}
 use Rattle.sa_call.specs.declared.call.Op.{Op}
 use Rattle.sa_call.specs.declared.form.Sort.{Sort}
@@ -32,10 +32,12 @@ use Rattle.sa_call.specs.declared.form.Sort.TheVariants as sort
 use Rattle.sa_call.specs.declared.form.Into.{Into}
 use Rattle.sa_call.specs.declared.form.Into.TheVariants as into
 use Rattle.sa_call.specs.Forms.{entry, op_of}
+use Rattle.sa_call.specs.Valid.{is_empty}
+use Rattle.sa_call.proofs.OpLemmas.{has-defaults}
 use Rattle.sa_script.specs.declared.statement.ViewTerm.{ViewTerm}
 use Rattle.sa_script.specs.declared.statement.Term.{Term}
 use Rattle.sa_script.specs.declared.statement.Term.TheVariants as term
-use Rattle.sa_script.specs.Statements.{text_rule_of, rule_of, coerce_of, descr_of, length_of, array_of, version_of, call_of, front_of, term_of, terms_of, is_over, behind_terms, operands_of, list_or_view, into_of, nothing_behind, behind_of, alone, statement_of}
+use Rattle.sa_script.specs.Statements.{text_rule_of, rule_of, coerce_of, descr_of, length_of, array_of, version_of, call_of, front_of, term_of, terms_of, is_over, left_out, behind_terms, operands_of, list_or_view, into_of, nothing_behind, behind_of, alone, statement_of}
 use Rattle.sa_script.proofs.ListLemmas.{all_push}
 
 -- what was read of a reading after another, and of a choice of two
@@ -285,19 +287,28 @@ terms_append [] rs (t ∷ ts) us are others = elim are [ ]
 terms_append (s ∷ ss) rs [] us are others = elim are [ ]
 terms_append (s ∷ ss) rs (t ∷ ts) us are others = (are.0, terms_append ss rs ts us are.1 others)
 
-abbrev Operands : Op → List Term → Type 0
-Operands o ts = AreTerms (entry o).needs ts ⊎ AreTerms ((entry o).needs ++ (entry o).may) ts
+-- numbers that stand for operands that are left out are operands
+numbers_are : (ns : List ℤ) → AreTerms (map (λ n. sort.Numbers) ns) (left_out ns)
+numbers_are [] = tt
+numbers_are (n ∷ ns) = (record { some = omega arith; few = omega arith; texts = tt }, numbers_are ns)
+
+defaults_are : (o : Op) (terms : List Term) → AreTerms (entry o).needs terms → AreTermsOf o (terms ++ left_out (entry o).defaults)
+defaults_are o terms are =
+    elim (has-defaults o) [
+      | inl none ↦ inl (ap is_empty none, subst (AreTerms (entry o).needs) (sym (ap (λ ns. terms ++ left_out ns) none ∙ append-nil terms)) are)
+      | inr numbers ↦ inr (terms_append (entry o).needs (entry o).may terms (left_out (entry o).defaults) are (subst (λ ss. AreTerms ss (left_out (entry o).defaults)) (sym numbers) (numbers_are (entry o).defaults)))
+    ]
 
 others_are : (o : Op) (terms : List Term) (b : Bool) (ts : List (List ℕ)) (r : List Term × List (List ℕ)) → AreTerms (entry o).needs terms
-    → behind_terms terms (cond b (Some ([], ts)) (terms_of (entry o).may ts)) ≡ Some r → Operands o r.0
-others_are o terms true ts r are e = inl (subst (λ (x : List Term × List (List ℕ)). AreTerms (entry o).needs x.0) (same_Some _ r e) (subst (AreTerms (entry o).needs) (sym (append-nil terms)) are))
+    → behind_terms terms (cond b (Some (left_out (entry o).defaults, ts)) (terms_of (entry o).may ts)) ≡ Some r → AreTermsOf o r.0
+others_are o terms true ts r are e = subst (λ (x : List Term × List (List ℕ)). AreTermsOf o x.0) (same_Some _ r e) (defaults_are o terms are)
 others_are o terms false ts r are e = go (terms_of (entry o).may ts) refl e
   where
-    go : (read : Option (List Term × List (List ℕ))) → terms_of (entry o).may ts ≡ read → behind_terms terms read ≡ Some r → Operands o r.0
+    go : (read : Option (List Term × List (List ℕ))) → terms_of (entry o).may ts ≡ read → behind_terms terms read ≡ Some r → AreTermsOf o r.0
     go None is e = cc
     go (Some q) is e = inr (subst (λ (x : List Term × List (List ℕ)). AreTerms ((entry o).needs ++ (entry o).may) x.0) (same_Some _ r e) (terms_append (entry o).needs (entry o).may terms q.0 are (are_terms (entry o).may ts q is)))
 
-operands_are : (o : Op) (ts : List (List ℕ)) (r : List Term × List (List ℕ)) → operands_of o ts ≡ Some r → Operands o r.0
+operands_are : (o : Op) (ts : List (List ℕ)) (r : List Term × List (List ℕ)) → operands_of o ts ≡ Some r → AreTermsOf o r.0
 operands_are o ts r e =
     let first = bound (terms_of (entry o).needs ts) _ r e in
     others_are o first.value.0 (is_over first.value.1) first.value.1 r (are_terms (entry o).needs ts first.value first.first) first.then

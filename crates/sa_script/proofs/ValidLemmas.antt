@@ -16,7 +16,7 @@ use Rattle.sa_call.specs.Calls.{lengths_fit}
 use Rattle.sa_call.specs.Decls.{length_at}
 use Rattle.sa_call.specs.Forms.{entry, on_descr, descr_of}
 use Rattle.sa_call.proofs.OpLemmas.{IsSameLine, op-cases, on_descr-line, with_fill-line}
-use Rattle.sa_call.specs.Valid.{IsCall, IsLiteralOperand, are_of, fit_table, kinds_fit, rules_fit, output_stands, is_view_of, is_operand_of, is_output_of, is_descr_of}
+use Rattle.sa_call.specs.Valid.{IsCall, IsLiteralOperand, are_of, call_kinds_fit, fit_table, is_empty, kinds_fit, results_fit, rules_fit, output_stands, is_view_of, is_operand_of, is_output_of, is_descr_of}
 use Rattle.sa_script.specs.declared.context.Context.{Context}
 use Rattle.sa_script.specs.declared.statement.Span.{Span}
 use Rattle.sa_script.specs.declared.statement.Span.TheVariants as span
@@ -27,7 +27,7 @@ use Rattle.sa_script.specs.declared.statement.Line.{Line}
 use Rattle.sa_script.specs.Contexts.{declared_in, number_in, used_array, used_length, descr_number, home_number}
 use Rattle.sa_script.specs.Resolving.{IsMeant}
 use Rattle.sa_script.specs.SoundContexts.{IsSoundContext}
-use Rattle.sa_script.specs.Spelled.{AreTerms, output_given, IsLine}
+use Rattle.sa_script.specs.Spelled.{AreTermsOf, AreTerms, output_given, IsLine}
 use Rattle.sa_script.specs.Terms.{whole, given, given_or, is_u32, is_i32, is_step, view_at, span_fits, view_in, of_output, span_passes, view_misnamed, view_unfit, term_misnamed, term_passes, term_unfit, given_items, fill_of, filled, line_misnamed, line_passes, line_unfit, operands_in, op_in, call_in}
 use Rattle.sa_script.proofs.ResolvingLemmas.{literals_in}
 
@@ -41,14 +41,20 @@ found_below names name e = go (number_in names name) refl e
 
 -- what a line asks for stays, whatever descriptor or fill is named
 same-trans : (o p q : Op) → IsSameLine o p → IsSameLine p q → IsSameLine o q
-same-trans o p q first then = record { needs = then.needs ∙ first.needs; may = then.may ∙ first.may; into = then.into ∙ first.into }
+same-trans o p q first then = record {
+  needs = then.needs ∙ first.needs;
+  may = then.may ∙ first.may;
+  defaults = then.defaults ∙ first.defaults;
+  results = then.results ∙ first.results;
+  into = then.into ∙ first.into;
+}
 
 filled-line : (o : Op) (fill : Option ℕ) → IsSameLine o (filled o fill)
-filled-line o None = record { needs = refl; may = refl; into = refl }
+filled-line o None = record { needs = refl; may = refl; defaults = refl; results = refl; into = refl }
 filled-line o (Some fill) = (with_fill-line o fill).0
 
 line-in : (c : Context) (ts : List Term) (o : Op) → IsSameLine o (op_in c o ts)
-line-in c [] o = record { needs = refl; may = refl; into = refl }
+line-in c [] o = record { needs = refl; may = refl; defaults = refl; results = refl; into = refl }
 line-in c (term.View v ∷ ts) o = line-in c ts o
 line-in c (term.List items ∷ ts) o = line-in c ts o
 line-in c (term.Fill items ∷ ts) o =
@@ -86,14 +92,17 @@ are_of-in c (sort.Descr ∷ ss) (term.List items ∷ ts) are = absurd are.0
 are_of-in c (sort.Descr ∷ ss) (term.Fill items ∷ ts) are = absurd are.0
 are_of-in c (sort.Descr ∷ ss) (term.Descr name ∷ ts) are = are_of-in c ss ts are.1
 
-table-in : (c : Context) (o : Op) (ts : List Term) → (AreTerms (entry o).needs ts ⊎ AreTerms ((entry o).needs ++ (entry o).may) ts) → fit_table (op_in c o ts) (operands_in c ts) ≡ true
+table-in : (c : Context) (o : Op) (ts : List Term) → AreTermsOf o ts → fit_table (op_in c o ts) (operands_in c ts) ≡ true
 table-in c o ts are =
     let same = line-in c ts o in
     let os = operands_in c ts in
-    ap (λ ss. are_of ss os || are_of (ss ++ (entry (op_in c o ts)).may) os) same.needs ∙ ap (λ ms. are_of (entry o).needs os || are_of ((entry o).needs ++ ms) os) same.may ∙
-    elim are [
-      | inl short ↦ let e = are_of-in c (entry o).needs ts short in rw e refl
-      | inr long ↦ let e = are_of-in c ((entry o).needs ++ (entry o).may) ts long in or-true (are_of (entry o).needs os) (are_of ((entry o).needs ++ (entry o).may) os) e
+    let p = entry (op_in c o ts) in
+    ap (λ ns. (is_empty ns && are_of p.needs os) || are_of (p.needs ++ p.may) os) same.defaults
+    ∙ ap (λ ss. (is_empty (entry o).defaults && are_of ss os) || are_of (ss ++ p.may) os) same.needs
+    ∙ ap (λ ms. (is_empty (entry o).defaults && are_of (entry o).needs os) || are_of ((entry o).needs ++ ms) os) same.may
+    ∙ elim are [
+      | inl short ↦ let none = short.0 in let e = are_of-in c (entry o).needs ts short.1 in rw (none, e) refl
+      | inr long ↦ let e = are_of-in c ((entry o).needs ++ (entry o).may) ts long in or-true (is_empty (entry o).defaults && are_of (entry o).needs os) (are_of ((entry o).needs ++ (entry o).may) os) e
     ]
   where
     or-true : (a b : Bool) → b ≡ true → (a || b) ≡ true
@@ -186,20 +195,20 @@ named c o n (term.Descr name ∷ []) s are known at =
     let below = subst (λ m. number < m) s.sound.descr_names (found_below c.names.descrs name (or_parts (is_none (descr_number c name)) false known).0) in
     ap (is_descr_of (declared_in c)) ((on_descr-line o number).1 ∙ ap (option_map (λ (d : ℕ). number)) at) ∙ lt-ltb number (length c.descrs) below
 
-descr-valid : (c : Context) (o : Op) (ts : List Term) → IsSoundContext c → (AreTerms (entry o).needs ts ⊎ AreTerms ((entry o).needs ++ (entry o).may) ts) → list_any (term_misnamed c) ts ≡ false
+descr-valid : (c : Context) (o : Op) (ts : List Term) → IsSoundContext c → AreTermsOf o ts → list_any (term_misnamed c) ts ≡ false
     → is_descr_of (declared_in c) (descr_of (op_in c o ts)) ≡ true
 descr-valid c o ts s are known =
     elim (op-cases o) [
       | inl is ↦ ap (is_descr_of (declared_in c)) (none-in c o ts is.descr)
       | inr is ↦
           let long : (entry o).needs ++ (entry o).may ≡ sort.Descr ∷ [] = ap (λ ss. ss ++ (entry o).may) is.needs ∙ ap (λ ms. sort.Descr ∷ ms) is.may in
-          let terms : AreTerms (sort.Descr ∷ []) ts = elim are [ inl a ↦ subst (λ ss. AreTerms ss ts) is.needs a | inr a ↦ subst (λ ss. AreTerms ss ts) long a ] in
+          let terms : AreTerms (sort.Descr ∷ []) ts = elim are [ inl a ↦ subst (λ ss. AreTerms ss ts) is.needs a.1 | inr a ↦ subst (λ ss. AreTerms ss ts) long a ] in
           named c o is.number ts s terms known is.descr
     ]
 
 -- the lists of a line that pass no limit are literals
-line-literals : (c : Context) (o : Op) (ts : List Term) → (AreTerms (entry o).needs ts ⊎ AreTerms ((entry o).needs ++ (entry o).may) ts) → list_any term_passes ts ≡ false → AllByRecursion IsLiteralOperand (operands_in c ts)
-line-literals c o ts are few = elim are [ inl a ↦ literals_in c (entry o).needs ts a few | inr a ↦ literals_in c ((entry o).needs ++ (entry o).may) ts a few ]
+line-literals : (c : Context) (o : Op) (ts : List Term) → AreTermsOf o ts → list_any term_passes ts ≡ false → AllByRecursion IsLiteralOperand (operands_in c ts)
+line-literals c o ts are few = elim are [ inl a ↦ literals_in c (entry o).needs ts a.1 few | inr a ↦ literals_in c ((entry o).needs ++ (entry o).may) ts a few ]
 
 pub line-meant : (c : Context) (l : Line) → IsSoundContext c → IsLine l → line_misnamed c l ≡ false → line_passes l ≡ false → line_unfit c l ≡ false → IsMeant (declared_in c) (call_in c l)
 line-meant c l s is known few fit =
@@ -214,13 +223,15 @@ line-meant c l s is known few fit =
     }
 
 pub line-valid : (c : Context) (l : Line) → IsSoundContext c → IsLine l → line_misnamed c l ≡ false → line_passes l ≡ false → line_unfit c l ≡ false
-    → kinds_fit (call_in c l).op (call_in c l).operands ≡ true → lengths_fit (call_in c l) ≡ true → rules_fit (declared_in c) (call_in c l) ≡ true → IsCall (declared_in c) (call_in c l)
+    → call_kinds_fit (call_in c l) ≡ true → lengths_fit (call_in c l) ≡ true → rules_fit (declared_in c) (call_in c l) ≡ true → IsCall (declared_in c) (call_in c l)
 line-valid c l s is known few fit kinds lengths rules =
     let names = or_parts (list_any (term_misnamed c) l.operands) (of_output (view_misnamed c) l.out) known in
     let meant = line-meant c l s is known few fit in
+    let both = and_parts (kinds_fit (call_in c l).op (call_in c l).operands) (results_fit (entry (call_in c l).op).results (call_in c l).out) kinds in
     record {
       sorts = meant.sorts;
-      kinds = kinds;
+      kinds = both.0;
+      results = both.1;
       output = ap (λ place. output_stands place (option_map (view_in c) l.out)) (line-in c l.operands l.op).into ∙ stands-in c (entry l.op).into l.out is.output;
       views = meant.views;
       into = meant.into;

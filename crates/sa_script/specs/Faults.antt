@@ -7,7 +7,7 @@ use Rattle.sa_script.specs.declared.statement.Statement.{Statement}
 use Rattle.sa_script.specs.declared.statement.Statement.TheVariants as statement
 use Rattle.sa_call.specs.Calls.{lengths_fit}
 use Rattle.sa_call.specs.Decls.{entries_of}
-use Rattle.sa_call.specs.Valid.{kinds_fit, rules_fit}
+use Rattle.sa_call.specs.Valid.{call_kinds_fit, rules_fit}
 use Rattle.sa_script.specs.Contexts.{declared_in, is_known, descr_number, home_number}
 use Rattle.sa_script.specs.Terms.{line_slices, line_misnamed, line_passes, line_unfit, line_miskinded, line_misfilled, call_in}
 use Rattle.sa_script.specs.Limits.{most_descrs, most_arrays, most_entries, most_tasks, most_calls, most_name_bytes}
@@ -83,13 +83,13 @@ bad_view c statement.Task = false
 bad_view c (statement.Call l) = line_unfit c l
 bad_view c statement.End = false
 
--- an operand or a fill of the call is of another kind than the table asks for, or has a missing value where none may stand
+-- an operand, a fill or the output of the call is of another kind than the table asks for, or has a missing value where none may stand
 abbrev pub bad_kind : Context → Statement → Bool
 bad_kind c statement.Version = false
 bad_kind c (statement.Descr name rule coerce) = false
 bad_kind c (statement.Array name home len) = false
 bad_kind c statement.Task = false
-bad_kind c (statement.Call l) = line_miskinded l || not (kinds_fit (call_in c l).op (call_in c l).operands)
+bad_kind c (statement.Call l) = line_miskinded l || not (call_kinds_fit (call_in c l))
 bad_kind c statement.End = false
 
 -- the counts of operands and output have no broadcast, or the output's count is not the broadcast

@@ -8,7 +8,7 @@ use Rattle.sa_call.specs.declared.call.Call.{Call}
 use Rattle.sa_call.specs.Calls.{lengths_fit}
 use Rattle.sa_call.specs.Forms.{on_descr}
 use Rattle.sa_call.specs.Decls.{Declared}
-use Rattle.sa_call.specs.Valid.{IsLiteralOperand, fit_table, is_operand_of, is_output_of, kinds_fit, rules_fit}
+use Rattle.sa_call.specs.Valid.{IsLiteralOperand, fit_table, is_operand_of, is_output_of, call_kinds_fit, rules_fit}
 use Rattle.sa_script.specs.declared.cause.Cause.{Cause}
 use Rattle.sa_script.specs.declared.cause.Cause.TheVariants as cause
 use Rattle.sa_script.specs.declared.context.Context.{Context}
@@ -79,7 +79,7 @@ call_fault c slices r =
     else (if r.misnamed then Some cause.Name
     else (if r.passes || nat_le most_calls c.calls then Some cause.Limit
     else (if r.unfit then Some cause.View
-    else (if r.miskinded || not (kinds_fit r.call.op r.call.operands) then Some cause.Kind
+    else (if r.miskinded || not (call_kinds_fit r.call) then Some cause.Kind
     else (if not (lengths_fit r.call) then Some cause.Lengths
     else (if not (rules_fit (declared_in c) r.call) then Some cause.Clash
     else (if r.misfilled then Some cause.Fill

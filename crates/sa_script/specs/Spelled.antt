@@ -7,7 +7,8 @@ use Rattle.sa_call.specs.declared.form.Sort.TheVariants as sort
 use Rattle.sa_call.specs.declared.form.Into.{Into}
 use Rattle.sa_call.specs.declared.form.Into.TheVariants as into
 use Rattle.sa_call.specs.Forms.{entry}
-use Rattle.sa_call.specs.Valid.{IsLiteral}
+use Rattle.sa_call.specs.declared.call.Op.{Op}
+use Rattle.sa_call.specs.Valid.{IsLiteral, is_empty}
 use Rattle.sa_script.specs.declared.statement.ViewTerm.{ViewTerm}
 use Rattle.sa_script.specs.declared.statement.Term.{Term}
 use Rattle.sa_script.specs.declared.statement.Term.TheVariants as term
@@ -61,9 +62,13 @@ output_given into.May out = true
 output_given into.Must out = is_some out
 output_given into.First out = is_some out
 
--- a line has the operands of its call, with or without those that may be left out
+-- all operands of a call; or, where no numbers stand for those that may be left out, the others alone
+abbrev pub AreTermsOf : Op → List Term → Type 0
+AreTermsOf op terms = ((is_empty (entry op).defaults ≡ true) × AreTerms (entry op).needs terms) ⊎ AreTerms ((entry op).needs ++ (entry op).may) terms
+
+-- a line has the operands of its call
 pub record IsLine (l : Line) : Type 0 where
-  pub terms : AreTerms (entry l.op).needs l.operands ⊎ AreTerms ((entry l.op).needs ++ (entry l.op).may) l.operands
+  pub terms : AreTermsOf l.op l.operands
   pub output : output_given (entry l.op).into l.out ≡ true
 
 abbrev pub IsSpelled : Statement → Type 0

@@ -1,11 +1,12 @@
 -- The statements of a script, each by the spelling of its tokens alone. Calls are read by the table of calls.
-use Rattle.std.specs.Prelude.{ℕ, ℤ, Bool, true, false, List, [], ◌∷◌, ◌++◌, Option, Some, None, option_map, if◌then◌else◌, codes}
+use Rattle.std.specs.Prelude.{ℕ, ℤ, Bool, true, false, List, [], ◌∷◌, ◌++◌, map, Option, Some, None, option_map, if◌then◌else◌, codes}
 use Rattle.sa_lines.specs.Options.{◌>>=◌}
 use Rattle.sa_lines.specs.Numbers.{number_of}
 use Rattle.sa_lines.specs.Tokens.{is_word}
 use Rattle.sa_descr.specs.declared.descr.NaRule.{NaRule}
 use Rattle.sa_descr.specs.declared.descr.NaRule.TheVariants.{Absent, Nan, Other, Txt}
 use Rattle.sa_plain.specs.declared.items.Items.{Items}
+use Rattle.sa_plain.specs.declared.items.Items.TheVariants.{Ints}
 use Rattle.sa_call.specs.declared.call.Op.{Op}
 use Rattle.sa_call.specs.declared.form.Sort.{Sort}
 use Rattle.sa_call.specs.declared.form.Sort.TheVariants as sort
@@ -96,9 +97,13 @@ abbrev pub is_over : List (List ℕ) → Bool
 is_over [] = true
 is_over (t ∷ ts) = is_word (codes "into") t
 
--- operands of these sorts, or none of them where no token is left or the word into comes next; and the tokens after them
-abbrev pub others_of : List Sort → List (List ℕ) → Option (List Term × List (List ℕ))
-others_of ss ts = if is_over ts then Some ([], ts) else terms_of ss ts
+-- numbers that stand for operands that are left out: a list of one each
+abbrev pub left_out : List ℤ → List Term
+left_out numbers = map (λ n. term.List (Some (Ints (n ∷ [])))) numbers
+
+-- operands of these sorts, or these numbers where no token is left or the word into comes next; and the tokens after them
+abbrev pub others_of : List Sort → List ℤ → List (List ℕ) → Option (List Term × List (List ℕ))
+others_of ss numbers ts = if is_over ts then Some (left_out numbers, ts) else terms_of ss ts
 
 -- these terms in front of those that were read
 abbrev pub behind_terms : List Term → Option (List Term × List (List ℕ)) → Option (List Term × List (List ℕ))
@@ -106,7 +111,7 @@ behind_terms terms read = option_map (λ r. (terms ++ r.0, r.1)) read
 
 -- the operands of a call, with or without those that may be left out, and the tokens after them
 abbrev pub operands_of : Op → List (List ℕ) → Option (List Term × List (List ℕ))
-operands_of op ts = terms_of (entry op).needs ts >>= λ r. behind_terms r.0 (others_of (entry op).may r.1)
+operands_of op ts = terms_of (entry op).needs ts >>= λ r. behind_terms r.0 (others_of (entry op).may (entry op).defaults r.1)
 
 -- an output in front of the operands, and the tokens after it
 abbrev pub front_of : Into → List (List ℕ) → Option (Option ViewTerm × List (List ℕ))

@@ -11,7 +11,7 @@ ghost use Rattle.sa_script.specs.declared.statement.Statement.{Statement};
 
 use crate::cause::Cause;
 use crate::context::Context;
-use crate::kinds::kinds_fit;
+use crate::kinds::call_kinds_fit;
 use crate::name::Name;
 use crate::resolving::Resolved;
 use sa_base::Memory;
@@ -122,7 +122,7 @@ impl Context {
             Ok(Some(Cause::Limit))
         } else if call.unfit {
             Ok(Some(Cause::View))
-        } else if call.miskinded || !kinds_fit(call.call.op, call.call.operands.as_slice()) {
+        } else if call.miskinded || !call_kinds_fit(&call.call) {
             Ok(Some(Cause::Kind))
         } else if !lengths_fit(alloc, &call.call)? {
             Ok(Some(Cause::Lengths))

@@ -2,22 +2,42 @@ ghost use Rattle.std.specs.Prelude.{◌≡◌, ◌&&◌, not, option_map};
 ghost use Rattle.std.specs.List.{list_any};
 ghost use Rattle.sa_text.specs.Values.{is_missing};
 ghost use Rattle.sa_call.specs.Forms.{is_operand};
-ghost use Rattle.sa_call.specs.Valid.{are_numbers, are_values, has_missing, is_kind, kinds_fit};
+ghost use Rattle.sa_call.specs.Valid.{are_numbers, are_values, has_missing, is_kind, call_kinds_fit, kinds_fit, results_fit};
 ghost use Rattle.sa_script.specs.Kinds.{kinds_read};
 ghost use Rattle.sa_script.specs.Terms.{fill_of, filled, point_of, value_point, values_point};
 
-use sa_call::{Items, Op, Operand, Sort, ValueList};
+use sa_call::{Call, Items, Op, Operand, Results, Sort, ValueList, View};
 use sa_text::{Text, Value, first_point};
 
+/// Whether the operands and the results of a call have the kinds that the table asks for.
+pub fn call_kinds_fit(call: &Call) -> bool
+    ensures { result ≡ call_kinds_fit call.now }
+{
+    kinds_fit(call.op, call.operands.as_slice()) && results_fit(call.op.form().results, &call.out)
+}
+
+/// Whether an output takes results of this kind; without one they are answered.
+fn results_fit(kind: Results, out: &Option<View>) -> bool
+    ensures { result ≡ results_fit kind out.now }
+{
+    match kind {
+        Results::Moved | Results::Texts => true,
+        Results::Numbers | Results::Flags => out.is_none(),
+    }
+}
+
 /// Whether each operand has the kind that the table asks for.
-pub fn kinds_fit(op: Op, operands: &[Operand]) -> bool
+fn kinds_fit(op: Op, operands: &[Operand]) -> bool
     ensures { result ≡ kinds_fit op operands.now }
 {
     let form = op.form();
     let Some(rest) = kinds_read(form.needs, operands) else {
         return false;
     };
-    matches!(kinds_read(form.may, rest), Some([]))
+    match kinds_read(form.may, rest) {
+        Some(left) => left.is_empty(),
+        None => false,
+    }
 }
 
 /// The operands behind those of these sorts, none where one has another kind than its sort.

@@ -17,6 +17,11 @@
 //! | `center T I`, `ljust T I`, `rjust T I` | calls that fill a text up to a width. FILL may follow, a list of one text of one code point; without it the fill is a space |
 //! | `zfill T I` | a call that fills a text with zeros behind its sign |
 //! | `strip T`, `lstrip T`, `rstrip T` | calls that take spaces away at both ends of a text, in front, or at the end. T may follow, a text whose code points are taken away instead |
+//! | `replace T T T` | a call that puts the third text in place of the second in the first. I may follow: how many times at most |
+//! | `find T T`, `rfind T T`, `index T T`, `rindex T T`, `count T T` | calls that tell the place of the second text in the first, or how often it stands there. Two I may follow: where the search begins and ends |
+//! | `starts T T`, `ends T T` | calls that test whether the second text stands at an edge of the first. Two I may follow |
+//! | `equal T T`, `not_equal T T`, `less T T`, `less_equal T T`, `greater T T`, `greater_equal T T` | calls that compare two texts |
+//! | `isalpha T`, `isdecimal T`, `isalnum T`, `isspace T` | calls that test what a text consists of |
 //! | `stats DESCR` | a call that answers the statistics of a descriptor |
 //! | `image DESCR` | a call that answers the picture of a descriptor |
 //! | `end` | the script ends |
@@ -30,8 +35,8 @@
 //!
 //! A LIST is one item, or items in brackets with commas between them, without blanks: texts and `na`, or
 //! numbers. T is a view or a list of texts, and I a list of numbers. The lines of calls that make texts may go on
-//! with `into VIEW`. Where operands may follow they are left out before the word `into` and at the end of
-//! the line.
+//! with `into VIEW`; behind one that tells numbers or truth values an output is of the wrong kind. Where
+//! operands may follow they are left out before the word `into` and at the end of the line.
 //!
 //! One item of a list or a view is put into each place of an output. Calls are read by the table of
 //! calls (`sa_call::Op::form`). Declarations stand before the first task, and calls in a task. Bytes that
@@ -46,7 +51,7 @@
 //! | 4 | a name that is declared already, or used and not declared, or declared as the other sort |
 //! | 5 | a limit is passed, a length is below 0, or a number is no i64 |
 //! | 6 | a view is none of its array: start or count is no u32, the step is no i32, that of a slice is 0, or it does not fit |
-//! | 7 | an operand or the fill is of another kind than the call takes, or has `na` where only `set` may have it |
+//! | 7 | an operand, the fill or the output is of another kind than the call takes or gives, or has `na` where only `set` may have it |
 //! | 8 | the count of an operand is neither 1 nor the output's |
 //! | 9 | two descriptors of the views of a call, its output included, have rules that are not `absent` and differ; `set`, `copy` and `show` do not ask |
 //! | 10 | the fill is not one text of one code point |

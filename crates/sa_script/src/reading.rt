@@ -1,14 +1,14 @@
-ghost use Rattle.std.specs.Prelude.{◌≡◌, Option, option_map, IfOk, Some, None, MatchOption};
+ghost use Rattle.std.specs.Prelude.{◌≡◌, Option, option_map, ◌++◌, IfOk, OnOk, Some, None, MatchOption};
 ghost use Rattle.sa_lines.specs.Tokens.{tokens_of};
 ghost use Rattle.sa_script.specs.Items.{list_of};
-ghost use Rattle.sa_script.specs.Statements.{statement_of, version_of, descr_of, array_of, call_of, rule_of, text_rule_of, coerce_of, length_of, alone, front_of, term_of, terms_of, is_over, behind_terms, operands_of, list_or_view, into_of, may_into, behind_of};
+ghost use Rattle.sa_script.specs.Statements.{statement_of, version_of, descr_of, array_of, call_of, rule_of, text_rule_of, coerce_of, length_of, alone, front_of, term_of, terms_of, is_over, left_out, behind_terms, operands_of, list_or_view, into_of, may_into, behind_of};
 
 use crate::item::{list_of, text_token};
 use crate::name::name_of;
 use crate::statement::{Line, Statement, Term, ViewTerm};
 use crate::view::view_of;
 use sa_base::{Memory, Sequence};
-use sa_call::{Into, Op, Sort};
+use sa_call::{IntList, Into, Items, Op, Sort};
 use sa_descr::NaRule;
 use sa_lines::{is_word, next_token, number_of};
 use std::alloc::Global;
@@ -227,12 +227,28 @@ fn operands_of<'a>(
         return Ok(None);
     };
     if is_over(rest) {
+        push_numbers(alloc, &mut terms, form.defaults)?;
         return Ok(Some((terms, rest)));
     }
     match terms_of(alloc, scratch, &mut terms, form.may, rest)? {
         Some(rest) => Ok(Some((terms, rest))),
         None => Ok(None),
     }
+}
+
+/// Puts numbers behind operands, which stand for those that are left out.
+fn push_numbers(
+    alloc: Global,
+    terms: &mut Sequence<Term<'_>>,
+    numbers: &[i64],
+) -> Result<(), Memory>
+    ensures { OnOk result (terms.new ≡ terms.old ++ left_out numbers.now) }
+{
+    for number in numbers {
+        let one = vec![in alloc; *number]?;
+        terms.push(Term::List(Some(Items::Ints(IntList::from_vec(one)))))?;
+    }
+    Ok(())
 }
 
 /// Whether no token is left, or the word `into` comes next.

@@ -1,6 +1,7 @@
 mod limits;
 mod making;
 mod meaning;
+mod telling;
 mod views;
 
 use crate::view::cut_at;
@@ -103,7 +104,7 @@ fn try_rows(
 }
 
 /// Whole scripts.
-const LINES: &str = "11:0 
+static LINES: &str = "11:0 
 11:1 |
 11:1 descr d absent coerce|
 11:1 descr d absent coerce
@@ -153,7 +154,7 @@ fn lines_and_ends(rt: HostRuntime) -> Result<(), Fail> {
 }
 
 /// Lines behind a descriptor `d` and an array `a`.
-const DECLARATIONS: &str = "ok descr f absent
+static DECLARATIONS: &str = "ok descr f absent
 ok descr f nan coerce
 ok \tdescr  f\tother \t strict 
 ok descr text text \"absent\"
@@ -226,7 +227,7 @@ fn declarations(rt: HostRuntime) -> Result<(), Fail> {
 }
 
 /// Lines of a task, behind a descriptor `d` and arrays of 2, 0 and 1 entries.
-const CALLS: &str = "ok task
+static CALLS: &str = "ok task
 0,2,1 show a
 0,0,1 \tshow \t none\t
 ok set a na
@@ -240,7 +241,7 @@ ok set one (\"x\")
 ok stats d
 ok image d
 2:6 task 1
-2:6 find a \"x\"
+2:6 cast a into a
 2:6 show
 2:6 show na
 2:6 show \"a\"

@@ -2,7 +2,7 @@ use super::try_rows;
 use std::test::Fail;
 
 /// Names, descriptors, arrays and entries, behind a descriptor `d`.
-const DECLARATIONS: &str = "ok descr <32*n> nan
+static DECLARATIONS: &str = "ok descr <32*n> nan
 5:2 descr <33*n> nan
 ok array <32*n> d str 1
 5:2 array <33*n> d str 1
@@ -27,7 +27,7 @@ fn most_declarations(rt: HostRuntime) -> Result<(), Fail> {
 }
 
 /// Tasks and calls, behind a descriptor `d` and an array `a`.
-const TASKS: &str = "ok <64*task|>
+static TASKS: &str = "ok <64*task|>
 5:67 <65*task|>
 ok task|<1024*show a|>task
 5:1028 task|<1025*show a|>
@@ -50,7 +50,7 @@ fn most_tasks_and_calls(rt: HostRuntime) -> Result<(), Fail> {
 }
 
 /// Texts and lists, behind an array `a` of 8,192 entries and an array `b` of 2.
-const LISTS: &str = "ok descr f text \"<65536*x>\"
+static LISTS: &str = "ok descr f text \"<65536*x>\"
 5:5 descr f text \"<65537*x>\" strict
 2:5 descr f text \"<65537*x>\" x
 4:5 descr d text \"<65537*x>\"

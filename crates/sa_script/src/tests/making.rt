@@ -3,13 +3,13 @@ use std::test::Fail;
 
 /// What stands before the calls: descriptors of different rules, `t` and `u` with the same text, and arrays
 /// of 2 entries, `one` of 1.
-const FRONT: &str =
+static FRONT: &str =
     "descr d nan|descr e other|descr n absent|descr t text \"x\"|descr u text \"x\"|\
     array a d str 2|array b e str 2|array c n str 2|array w t str 2|array v u str 2|\
     array one d str 1|array add d str 2|task|";
 
 /// Lines of calls that make texts, and of some that do not.
-const CALLS: &str = "0,2,1 add a \"x\"
+static CALLS: &str = "0,2,1 add a \"x\"
 ok add \"x\" a
 ok add \"x\" \"y\"
 0,2,1 add a a into a

@@ -2,7 +2,7 @@ use crate::parse;
 use std::test::Fail;
 
 /// A script of several descriptors, arrays and tasks.
-const SCRIPT: &str = "# words
+static SCRIPT: &str = "# words
 version 2
 descr d text \"-\\u{2d}é\"
 descr e absent strict
@@ -21,6 +21,7 @@ copy a[::-1] into c[1,2,1]
 center c 5 \"é\" into c
 rjust c -007
 strip c
+find c \"\"
 show c
 image g
 end
@@ -28,7 +29,7 @@ end
 
 /// What it declares and calls, as `Debug` writes it. A literal's values are shared, so that copies of it
 /// take no memory.
-const TOLD: &str = "2 Names { descrs: [\"d\", \"e\", \"f\", \"g\"], arrays: [\"b\", \"a\", \"c\"] }
+static TOLD: &str = "2 Names { descrs: [\"d\", \"e\", \"f\", \"g\"], arrays: [\"b\", \"a\", \"c\"] }
 Decls { descrs: [Descr { na: Txt(Text { bytes: SharedBytes { held: Inside { size: 4, bytes: [45, 45, 195, 169, 0, 0, 0, 0, 0, 0, 0, 0, 0, 0] } } }), coerce: true }, \
     Descr { na: Absent, coerce: false }, \
     Descr { na: Nan, coerce: true }, \
@@ -49,6 +50,10 @@ Sequence { items: [\
     Call { op: Rjust(' '), operands: Sequence { items: [View(View { array: 2, start: 0, count: 3, step: 1 }), Literal(Ints(Sequence { items: [-7] }))] }, \
     out: None }, \
     Call { op: Strip, operands: Sequence { items: [View(View { array: 2, start: 0, count: 3, step: 1 })] }, \
+    out: None }, \
+    Call { op: Find, operands: Sequence { items: [View(View { array: 2, start: 0, count: 3, step: 1 }), \
+    Literal(Values(ValueList { held: Shared { count: 1, weight: Some(16), values: [Of(Text { bytes: SharedBytes { held: Inside { size: 0, bytes: [0, 0, 0, 0, 0, 0, 0, 0, 0, 0, 0, 0, 0, 0] } } })] } })), \
+    Literal(Ints(Sequence { items: [0] })), Literal(Ints(Sequence { items: [9223372036854775807] }))] }, \
     out: None }, \
     Call { op: Show, operands: Sequence { items: [View(View { array: 2, start: 0, count: 3, step: 1 })] }, \
     out: None }, \

@@ -2,7 +2,7 @@ use super::try_rows;
 use std::test::Fail;
 
 /// Views of an array `a` of 3 entries, the first version's.
-const VIEWS: &str = "0,3,1 show a[0,3,1]
+static VIEWS: &str = "0,3,1 show a[0,3,1]
 2,3,-1 show a[2,3,-1]
 1,2,1 show a[1,2,01]
 3,0,-5 show a[3,0,-5]
@@ -58,7 +58,7 @@ fn views(rt: HostRuntime) -> Result<(), Fail> {
 }
 
 /// Slices of an array `b` of 3 entries.
-const SLICES: &str = "2,3,-1 show b[::-1]
+static SLICES: &str = "2,3,-1 show b[::-1]
 1,2,1 show b[-2:]
 0,1,2 show b[:-1:2]
 0,0,1 show b[5:]

@@ -11,7 +11,7 @@ use Rattle.sa_call.specs.Columns.{columns_read}
 use Rattle.sa_call.specs.Valid.{all_values}
 use Rattle.sa_call.proofs.ColumnLemmas.{columns-few, lent-counts, outcome-lent}
 use Rattle.sa_call.proofs.CountLemmas.{operands-few}
-use Rattle.sa_call.proofs.OpLemmas.{few-operands, group-makes, moves, moved-values, on-items}
+use Rattle.sa_call.proofs.OpLemmas.{few-operands, moves, moved-values, on-items}
 use Rattle.sa_call.proofs.evaluating.evaluate_items.Goals as goal
 
 pub columns_weight-weight-requires-clause-few : goal.columns_weight-weight-requires-clause-few
@@ -54,9 +54,6 @@ moved-requires-clause-values c =
     let read : map (λ (r : Bor Items). r.now) lent ≡ columns_read call.operands c.args.lists.now = ap (map (λ (r : Bor Items). r.now)) c.as_slice-columns.ensures.value ∙ all in
     let is = moves call.op (on-items call.op c.requires.items) (sym c.form.ensures.group ∙ c.in-None.is) in
     ap all_values read ∙ moved-values call.op call.operands c.args.lists.now is c.requires.call.sorts c.requires.call.kinds c.requires.values
-
-pub made-requires-clause-makes : goal.made-requires-clause-makes
-made-requires-clause-makes c = group-makes c.args.call.now.op c.in-Some.group (on-items c.args.call.now.op c.requires.items) (sym c.form.ensures.group ∙ c.in-Some.is)
 
 pub returns-in-None : goal.returns-in-None
 returns-in-None c =

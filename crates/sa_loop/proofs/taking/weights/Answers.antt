@@ -17,6 +17,23 @@ weight_at-requires-clause-held g c =
     let layouts = g.R.Rooms.layouts c.args.rooms.now in
     subst (λ (os : List Operand). AreHeld c.args.decls.now has layouts os) (sym c.as_slice-operands.ensures) (are-held c.args.decls.now has layouts c.args.call.now c.requires.can)
 
+pub weight_at-requires-clause-few : goal.weight_at-requires-clause-few
+weight_at-requires-clause-few g c =
+    let few = (are-short c.args.decls.now c.args.call.now c.requires.items c.requires.can.valid).few in
+    let lent = ap length c.as_slice-operands.ensures in
+    omega arith
+
+pub overflow_add-together : goal.overflow_add-together
+overflow_add-together g c =
+    let few = (are-short c.args.decls.now c.args.call.now c.requires.items c.requires.can.valid).few in
+    let lent = ap length c.as_slice-operands.ensures in
+    let most : c.in_ok-weight.weight ≤ 537001984 * length c.as_slice-operands.result.now = c.in_ok-weight.ensures.most in
+    let before : c.loop-number.together ≤ 4296015872 * c.loop-number.number = c.loop-number.invariant.most in
+    let below = c.loop-number-test.true in
+    let descrs = c.requires.can.declared.descrs in
+    let all = ap length c.descrs-number-end.ensures in
+    omega (arith, c.loop-number.auto.number-end)
+
 pub loop-number-preserved : goal.loop-number-preserved
 loop-number-preserved g c =
     let d = c.args.decls.now in

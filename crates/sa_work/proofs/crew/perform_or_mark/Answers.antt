@@ -1,13 +1,21 @@
 use Rattle.std.proofs.Common.{◌≡◌, sym, ap, ◌∙◌, subst}
 use Rattle.std.specs.Result.{IfOk, OnErr}
 use Rattle.sa_call.specs.Decls.{Declared}
+use Rattle.sa_call.specs.Valid.{IsCall}
 use Rattle.sa_loop.specs.Histories.{no_call}
 use Rattle.sa_loop.specs.Locked.{IsOneLineMore}
 use Rattle.sa_hall.specs.Passes.{Passed, with_mark}
 use Rattle.sa_loop.specs.declared.act.Act.{Act}
 use Rattle.sa_loop.proofs.HistoryLemmas.{at_marked, at_performed}
-use Rattle.sa_work.proofs.ThreadLemmas.{there}
+use Rattle.sa_work.proofs.ThreadLemmas.{all-there, there}
 use Rattle.sa_work.proofs.crew.perform_or_mark.Goals as goal
+
+pub perform_call-requires-clause-call : goal.perform_call-requires-clause-call
+perform_call-requires-clause-call g c =
+    let decls = c.args.crew.now.script.now.decls in
+    let call = c.index-calls-number.result in
+    let valid = all-there (IsCall decls) c.args.calls.now c.args.number call c.requires.valid c.requires.within in
+    subst (λ (d : Declared). IsCall d call) (sym c.decls-decls.ensures) (subst (IsCall decls) (sym c.index-calls-number.is) valid)
 
 pub returns-in-Ok-default-clause-at : goal.returns-in-Ok-default-clause-at
 returns-in-Ok-default-clause-at g c =

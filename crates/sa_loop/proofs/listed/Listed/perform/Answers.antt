@@ -25,6 +25,9 @@ take-requires-clause-can c = can-take c.args.self.now.decls.now c.args.self.now.
 pub new-requires-clause-call : goal.new-requires-clause-call
 new-requires-clause-call c = subst (λ d. IsCall d c.args.call.now) c.requires.decls c.requires.call
 
+pub evaluated-requires-clause-call : goal.evaluated-requires-clause-call
+evaluated-requires-clause-call c = subst (λ d. IsCall d c.args.call.now) c.requires.decls c.requires.call
+
 pub put_outcome-requires : goal.put_outcome-requires
 put_outcome-requires c = can-put c.args.self.now.decls.now c.args.self.now.stores.items (calls_of c.args.self.now.acts.items) c.args.call.now (parts_told c.args.self.now.decls.now c.args.call.now c.in_ok-read.read c.in_ok-read.weights) c.in_ok-outcome.outcome (run_of c.args.self.now) c.arrays-declared.ensures.declared (subst (λ d. IsCall d c.args.call.now) c.requires.decls c.requires.call) (c.in_ok-outcome.ensures c.in_ok-read.weights c.in_ok-read.ensures.taken.are_weights)
 

@@ -3,7 +3,8 @@ use Rattle.std.specs.List.{All}
 use Rattle.std.specs.Option.{is_some}
 use Rattle.sa_descr.specs.declared.descr.Descr.{Descr}
 use Rattle.sa_script.specs.Contexts.{declared_in}
-use Rattle.sa_script.proofs.ClashLemmas.{homes-known, homes-few}
+use Rattle.sa_call.proofs.RuleLemmas.{homes-few}
+use Rattle.sa_script.proofs.ClashLemmas.{homes-known}
 use Rattle.sa_script.proofs.context.Context.rules_fit.Goals as goal
 
 pub combine-requires-clause-known : goal.combine-requires-clause-known
@@ -19,4 +20,4 @@ combine-requires-clause-few c =
     let d = declared_in c.args.self.now in
     let same = c.as_slice-2.ensures.value ∙ c.in_ok-homes.ensures in
     let given = sym (ap is_some c.form.ensures.group) ∙ c.is_none.ensures ∙ ap not c.if-is_none.false in
-    subst (λ (homes : List ℕ). length homes < 4294967296) (sym same) (homes-few d c.args.call.now given c.requires.meant)
+    subst (λ (homes : List ℕ). length homes < 4294967296) (sym same) (homes-few d c.args.call.now given c.requires.meant.sorts)
