@@ -128,7 +128,7 @@ def seeking(line, piece):
 # What is sought is not there, is nearly there everywhere, or is there many times.
 SEEKING = (("find", seeking(b'find a "y"\n', b"some text ")), ("nearly", seeking(b'find a "aaaaaaab"\n', b"a")),
            ("rfind", seeking(b'rfind a "xt some y"\n', b"some text ")), ("count", seeking(b'count a "xt"\n', b"some text ")),
-           ("points", seeking(b'find a "" 50000\n', "é".encode())), ("replace", seeking(b'replace a "xt" "yz" into b\n', b"some text ")),
+           ("points", seeking(b'find a "" 50000 60000\n', "é".encode())), ("replace", seeking(b'replace a "xt" "yz" into b\n', b"some text ")),
            ("misses", seeking(b'replace a "aaaaaaab" "" into b\n', b"a")))
 
 
