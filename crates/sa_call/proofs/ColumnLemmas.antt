@@ -1,21 +1,19 @@
 -- The columns of a call: how many items each has, and the one of a call that moves.
-use Rattle.std.proofs.Common.{◌≡◌, ℕ, ◌≤◌, ltb, false, List, [], ◌∷◌, length, map, slice_get, Some, refl, sym, ap, ◌∙◌, subst, arith}
+use Rattle.std.proofs.Common.{◌≡◌, ℕ, ◌≤◌, ltb, true, false, List, [], ◌∷◌, length, map, slice_get, Some, refl, sym, ap, ◌∙◌, subst, arith}
 use Rattle.std.specs.List.{AllByRecursion}
-use Rattle.std.proofs.lemmas.Bool.{le-ltb}
+use Rattle.std.proofs.lemmas.Bool.{and_parts, le-ltb}
 use Rattle.std.proofs.lemmas.List.{length-map}
 use Rattle.std.proofs.lemmas.Simd.{map-map}
 use Rattle.sa_plain.specs.Items.{count_of, items_of}
-use Rattle.sa_text.specs.Values.{item_of}
-use Rattle.sa_text.specs.declared.value.Value.{Value}
 use Rattle.sa_plain.specs.declared.items.Items.{Items}
-use Rattle.sa_plain.specs.declared.items.Items.TheVariants.{Values}
 use Rattle.sa_call.specs.declared.call.Call.{Call}
 use Rattle.sa_call.specs.declared.call.Operand.{Operand}
 use Rattle.sa_call.specs.declared.call.Operand.TheVariants as operand
 use Rattle.sa_call.specs.Calls.{operand_count}
-use Rattle.sa_call.specs.Columns.{columns_read, columns_weight, outcome_read}
+use Rattle.sa_call.specs.Columns.{columns_read, columns_weight, outcome_read, AreColumns, IsColumn}
 use Rattle.sa_call.specs.Decides.{outcome_on}
-use Rattle.sa_call.specs.Decls.{Declared}
+use Rattle.sa_call.specs.Decls.{Declared, kind_of}
+use Rattle.sa_call.specs.Kinds.{fits_kind, lists_fit}
 use Rattle.sa_call.specs.Told.{view_counts}
 
 -- each column has as many items as its operand
@@ -59,12 +57,42 @@ first-one items lent c os counts one first = go lent long first
     go (x ∷ []) long first = cc
     go (x ∷ y ∷ xs) long first = absurd (omega arith)
 
--- where it has values, they are as many as the operand's items
-pub one-column : {A : Type 0} (items : A → Items) (lent : List A) (c : A) (os : List Operand) (vs : List Value) → map (λ (a : A). count_of (items a)) lent ≡ map operand_count os → length os ≡ 1 → slice_get lent 0 ≡ Some c → items c ≡ Values vs
-    → (map operand_count os ≡ length vs ∷ []) × (map (λ (a : A). items_of (items a)) lent ≡ map item_of vs ∷ [])
-one-column items lent c os vs counts one first is =
-    let all = first-one items lent c os counts one first in
-    (sym counts ∙ ap (map (λ a. count_of (items a))) all ∙ ap (λ (i : Items). count_of i ∷ []) is, ap (map (λ a. items_of (items a))) all ∙ ap (λ (i : Items). items_of i ∷ []) is)
+-- it is one for the only operand, and has as many items
+pub record IsOneColumn (d : Declared) (call : Call) (columns : List Items) (column : Items) : Type 0 where
+  pub operand : Operand
+  pub operands : call.operands ≡ operand ∷ []
+  pub count : map operand_count call.operands ≡ count_of column ∷ []
+  pub is : IsColumn d operand column
+  pub only : map items_of columns ≡ items_of column ∷ []
+
+only-operand : (os : List Operand) → length os ≡ 1 → (o : Operand) × (os ≡ o ∷ [])
+only-operand [] one = absurd (omega arith)
+only-operand (o ∷ []) one = (o, refl)
+only-operand (o ∷ p ∷ os) one = absurd (omega arith)
+
+pub one-column : {A : Type 0} (d : Declared) (call : Call) (items : A → Items) (lent : List A) (c : A) → map (λ (a : A). count_of (items a)) lent ≡ map operand_count call.operands → length call.operands ≡ 1 → slice_get lent 0 ≡ Some c
+    → AreColumns d call.operands (map items lent) → IsOneColumn d call (map items lent) (items c)
+one-column d call items lent c counts one first are =
+    let all = first-one items lent c call.operands counts one first in
+    let only = only-operand call.operands one in
+    let both : AreColumns d (only.0 ∷ []) (items c ∷ []) = subst (λ (os : List Operand). AreColumns d os (items c ∷ [])) only.1 (subst (λ (l : List _). AreColumns d call.operands (map items l)) all are) in
+    record {
+      operand = only.0;
+      operands = only.1;
+      count = sym counts ∙ ap (map (λ a. count_of (items a))) all;
+      is = both.0;
+      only = ap (λ l. map items_of (map items l)) all;
+    }
+
+-- the columns that are read are those of the operands
+pub columns-are : (d : Declared) (os : List Operand) (lists : List Items) → map count_of lists ≡ view_counts os → lists_fit d os lists ≡ true → AreColumns d os (columns_read os lists)
+columns-are d [] lists counts fit = tt
+columns-are d (operand.Literal items ∷ os) lists counts fit = (refl, columns-are d os lists counts fit)
+columns-are d (operand.View v ∷ os) [] counts fit = cc
+columns-are d (operand.View v ∷ os) (l ∷ ls) counts fit =
+    let rest : map count_of ls ≡ view_counts os = cc in
+    let parts = and_parts (fits_kind (kind_of d v.array) l) (lists_fit d os ls) fit in
+    (parts.0, columns-are d os ls rest parts.1)
 
 -- what comes of a call that is not too heavy
 pub outcome-light : (d : Declared) (call : Call) (columns : List Items) (weight : ℕ) → weight ≡ columns_weight columns → weight ≤ 1048576

@@ -1,6 +1,7 @@
 pub mod ColumnLemmas
 pub mod CountLemmas
 pub mod DecideLemmas
+pub mod KindLemmas
 pub mod MoveLemmas
 pub mod OpLemmas
 pub mod PartLemmas

@@ -7,20 +7,24 @@ use Rattle.std.proofs.lemmas.List.{append-nil, length-append}
 use Rattle.sa_view.specs.declared.view.View.{View}
 use Rattle.sa_call.specs.declared.call.Op.{Op}
 use Rattle.sa_call.specs.declared.call.Op.TheVariants as op
-use Rattle.sa_plain.specs.declared.items.Items.{Items}
 use Rattle.sa_call.specs.declared.call.Operand.{Operand}
 use Rattle.sa_call.specs.declared.call.Operand.TheVariants as operand
-use Rattle.sa_call.specs.Columns.{columns_read}
 use Rattle.sa_call.specs.declared.form.Gives.TheVariants as gives
 use Rattle.sa_call.specs.declared.form.Into.TheVariants as into
 use Rattle.sa_call.specs.declared.form.Sort.{Sort}
 use Rattle.sa_call.specs.declared.form.Sort.TheVariants as sort
 use Rattle.sa_call.specs.Forms.{IsMoving, entry, descr_of, is_moved, is_operand, on_descr, with_fill}
-use Rattle.sa_call.specs.Valid.{all_are, all_values, are_of, are_values, fit_table, is_empty, is_kind, is_of, kinds_fit, output_stands}
+use Rattle.sa_call.specs.Valid.{all_are, are_of, fit_table, is_empty, is_of, output_stands}
+use Rattle.sa_call.proofs.KindLemmas.{is_computed}
 
 -- numbers that may be left out all have numbers that stand for them, and other operands have none
 abbrev pub HasDefaults : Op → Type 0
 HasDefaults o = ((entry o).defaults ≡ []) ⊎ ((entry o).may ≡ map (λ n. sort.Numbers) (entry o).defaults)
+
+-- the call computes its results, and treats missing values
+pub record IsComputing (o : Op) : Type 0 where
+  pub group : is_some (entry o).group ≡ true
+  pub results : is_computed (entry o).results ≡ true
 
 -- the call is on the items of its operands
 pub record IsOnItems (o : Op) : Type 0 where
@@ -28,7 +32,7 @@ pub record IsOnItems (o : Op) : Type 0 where
   pub descr : descr_of o ≡ None
   pub few : length ((entry o).needs ++ (entry o).may) ≤ 4
   pub defaults : HasDefaults o
-  pub kind : IsMoving o ⊎ (is_some (entry o).group ≡ true)
+  pub kind : IsMoving o ⊎ IsComputing o
 
 -- the call is on a descriptor as a whole
 pub record IsWhole (o : Op) : Type 0 where
@@ -41,40 +45,40 @@ pub record IsWhole (o : Op) : Type 0 where
   pub group : (entry o).group ≡ None
   pub gives : ((entry o).gives ≡ gives.Statistics) ⊎ ((entry o).gives ≡ gives.Picture)
 
-computing : (o : Op) → (entry o).gives ≡ gives.Items → descr_of o ≡ None → length ((entry o).needs ++ (entry o).may) ≤ 4 → is_some (entry o).group ≡ true → HasDefaults o → IsOnItems o ⊎ IsWhole o
-computing o given none few computes defaults = inl (record { gives = given; descr = none; few = few; defaults = defaults; kind = inr computes })
+computing : (o : Op) → (entry o).gives ≡ gives.Items → descr_of o ≡ None → length ((entry o).needs ++ (entry o).may) ≤ 4 → is_some (entry o).group ≡ true → is_computed (entry o).results ≡ true → HasDefaults o → IsOnItems o ⊎ IsWhole o
+computing o given none few computes results defaults = inl (record { gives = given; descr = none; few = few; defaults = defaults; kind = inr (record { group = computes; results = results }) })
 
 pub op-cases : (o : Op) → IsOnItems o ⊎ IsWhole o
 op-cases op.Set = inl (record { gives = refl; descr = refl; few = omega arith; defaults = inl refl; kind = inl (record { need = sort.Literal; needs = refl; moves = refl; may = refl; results = refl; group = refl; element = refl }) })
 op-cases op.Copy = inl (record { gives = refl; descr = refl; few = omega arith; defaults = inl refl; kind = inl (record { need = sort.View; needs = refl; moves = refl; may = refl; results = refl; group = refl; element = refl }) })
 op-cases op.Show = inl (record { gives = refl; descr = refl; few = omega arith; defaults = inl refl; kind = inl (record { need = sort.View; needs = refl; moves = refl; may = refl; results = refl; group = refl; element = refl }) })
-op-cases op.Add = computing op.Add refl refl (omega arith) refl (inl refl)
-op-cases op.Multiply = computing op.Multiply refl refl (omega arith) refl (inl refl)
-op-cases (op.Center fill) = computing (op.Center fill) refl refl (omega arith) refl (inl refl)
-op-cases (op.Ljust fill) = computing (op.Ljust fill) refl refl (omega arith) refl (inl refl)
-op-cases (op.Rjust fill) = computing (op.Rjust fill) refl refl (omega arith) refl (inl refl)
-op-cases op.Zfill = computing op.Zfill refl refl (omega arith) refl (inl refl)
-op-cases op.Strip = computing op.Strip refl refl (omega arith) refl (inl refl)
-op-cases op.Lstrip = computing op.Lstrip refl refl (omega arith) refl (inl refl)
-op-cases op.Rstrip = computing op.Rstrip refl refl (omega arith) refl (inl refl)
-op-cases op.Replace = computing op.Replace refl refl (omega arith) refl (inr refl)
-op-cases op.Find = computing op.Find refl refl (omega arith) refl (inr refl)
-op-cases op.Rfind = computing op.Rfind refl refl (omega arith) refl (inr refl)
-op-cases op.Index = computing op.Index refl refl (omega arith) refl (inr refl)
-op-cases op.Rindex = computing op.Rindex refl refl (omega arith) refl (inr refl)
-op-cases op.Count = computing op.Count refl refl (omega arith) refl (inr refl)
-op-cases op.Starts = computing op.Starts refl refl (omega arith) refl (inr refl)
-op-cases op.Ends = computing op.Ends refl refl (omega arith) refl (inr refl)
-op-cases op.Equal = computing op.Equal refl refl (omega arith) refl (inl refl)
-op-cases op.NotEqual = computing op.NotEqual refl refl (omega arith) refl (inl refl)
-op-cases op.Less = computing op.Less refl refl (omega arith) refl (inl refl)
-op-cases op.LessEqual = computing op.LessEqual refl refl (omega arith) refl (inl refl)
-op-cases op.Greater = computing op.Greater refl refl (omega arith) refl (inl refl)
-op-cases op.GreaterEqual = computing op.GreaterEqual refl refl (omega arith) refl (inl refl)
-op-cases op.IsAlpha = computing op.IsAlpha refl refl (omega arith) refl (inl refl)
-op-cases op.IsDecimal = computing op.IsDecimal refl refl (omega arith) refl (inl refl)
-op-cases op.IsAlnum = computing op.IsAlnum refl refl (omega arith) refl (inl refl)
-op-cases op.IsSpace = computing op.IsSpace refl refl (omega arith) refl (inl refl)
+op-cases op.Add = computing op.Add refl refl (omega arith) refl refl (inl refl)
+op-cases op.Multiply = computing op.Multiply refl refl (omega arith) refl refl (inl refl)
+op-cases (op.Center fill) = computing (op.Center fill) refl refl (omega arith) refl refl (inl refl)
+op-cases (op.Ljust fill) = computing (op.Ljust fill) refl refl (omega arith) refl refl (inl refl)
+op-cases (op.Rjust fill) = computing (op.Rjust fill) refl refl (omega arith) refl refl (inl refl)
+op-cases op.Zfill = computing op.Zfill refl refl (omega arith) refl refl (inl refl)
+op-cases op.Strip = computing op.Strip refl refl (omega arith) refl refl (inl refl)
+op-cases op.Lstrip = computing op.Lstrip refl refl (omega arith) refl refl (inl refl)
+op-cases op.Rstrip = computing op.Rstrip refl refl (omega arith) refl refl (inl refl)
+op-cases op.Replace = computing op.Replace refl refl (omega arith) refl refl (inr refl)
+op-cases op.Find = computing op.Find refl refl (omega arith) refl refl (inr refl)
+op-cases op.Rfind = computing op.Rfind refl refl (omega arith) refl refl (inr refl)
+op-cases op.Index = computing op.Index refl refl (omega arith) refl refl (inr refl)
+op-cases op.Rindex = computing op.Rindex refl refl (omega arith) refl refl (inr refl)
+op-cases op.Count = computing op.Count refl refl (omega arith) refl refl (inr refl)
+op-cases op.Starts = computing op.Starts refl refl (omega arith) refl refl (inr refl)
+op-cases op.Ends = computing op.Ends refl refl (omega arith) refl refl (inr refl)
+op-cases op.Equal = computing op.Equal refl refl (omega arith) refl refl (inl refl)
+op-cases op.NotEqual = computing op.NotEqual refl refl (omega arith) refl refl (inl refl)
+op-cases op.Less = computing op.Less refl refl (omega arith) refl refl (inl refl)
+op-cases op.LessEqual = computing op.LessEqual refl refl (omega arith) refl refl (inl refl)
+op-cases op.Greater = computing op.Greater refl refl (omega arith) refl refl (inl refl)
+op-cases op.GreaterEqual = computing op.GreaterEqual refl refl (omega arith) refl refl (inl refl)
+op-cases op.IsAlpha = computing op.IsAlpha refl refl (omega arith) refl refl (inl refl)
+op-cases op.IsDecimal = computing op.IsDecimal refl refl (omega arith) refl refl (inl refl)
+op-cases op.IsAlnum = computing op.IsAlnum refl refl (omega arith) refl refl (inl refl)
+op-cases op.IsSpace = computing op.IsSpace refl refl (omega arith) refl refl (inl refl)
 op-cases (op.Stats d) = inr (record { number = d; descr = refl; needs = refl; may = refl; defaults = refl; into = refl; group = refl; gives = inl refl })
 op-cases (op.Image d) = inr (record { number = d; descr = refl; needs = refl; may = refl; defaults = refl; into = refl; group = refl; gives = inr refl })
 
@@ -99,7 +103,11 @@ pub on-group : (o : Op) → is_some (entry o).group ≡ true → IsOnItems o
 on-group o given = elim (op-cases o) [ inl is ↦ is | inr is ↦ absurd (false≢true (sym (ap is_some is.group) ∙ given)) ]
 
 pub moves : (o : Op) → IsOnItems o → (entry o).group ≡ None → IsMoving o
-moves o is none = elim is.kind [ inl moving ↦ moving | inr computes ↦ absurd (false≢true (sym (ap is_some none) ∙ computes)) ]
+moves o is none = elim is.kind [ inl moving ↦ moving | inr computes ↦ absurd (false≢true (sym (ap is_some none) ∙ computes.group)) ]
+
+-- a call of a group of missing values moves nothing
+pub computes : (o : Op) → is_some (entry o).group ≡ true → IsComputing o
+computes o given = elim (on-group o given).kind [ inl moving ↦ absurd (false≢true (sym (ap is_some moving.group) ∙ given)) | inr computing ↦ computing ]
 
 pub on-statistics : (o : Op) → (entry o).gives ≡ gives.Statistics → IsWhole o
 on-statistics o given = elim (op-cases o) [ inl is ↦ let x = sym is.gives ∙ given in cc | inr is ↦ is ]
@@ -155,36 +163,6 @@ fits-one o os is sorts = ap (λ ss. are_of ss os) (sym is.needs) ∙ fits-alone 
 
 pub one-operand : (o : Op) (os : List Operand) → IsMoving o → fit_table o os ≡ true → length os ≡ 1
 one-operand o os is sorts = one-of is.need os (moved-operand is.need is.moves) (fits-one o os is sorts)
-
--- and what it reads are values
-value-of : (s : Sort) (items : Items) → is_moved s ≡ true → is_of s (operand.Literal items) ≡ true → is_kind s (operand.Literal items) ≡ true → are_values items ≡ true
-value-of sort.View items moves of kind = absurd (false≢true of)
-value-of sort.Literal items moves of kind = kind
-value-of sort.Texts items moves of kind = absurd (false≢true moves)
-value-of sort.Numbers items moves of kind = absurd (false≢true moves)
-value-of sort.Fill items moves of kind = absurd (false≢true moves)
-value-of sort.Descr items moves of kind = absurd (false≢true moves)
-
-one-value : (s : Sort) (os : List Operand) (lists : List Items) → is_moved s ≡ true → all_are is_of (s ∷ []) os ≡ true → all_are is_kind (take (length os) (s ∷ [])) os ≡ true → all_values lists ≡ true → all_values (columns_read os lists) ≡ true
-one-value s [] lists moves of kind values = absurd (false≢true of)
-one-value s (operand.View v ∷ []) [] moves of kind values = refl
-one-value s (operand.View v ∷ []) (l ∷ ls) moves of kind values = let here = (and_parts (are_values l) (all_values ls) values).0 in rw here refl
-one-value s (operand.Literal items ∷ []) lists moves of kind values =
-    let is = (and_parts (is_of s (operand.Literal items)) true of).0 in
-    let kind_is = (and_parts (is_kind s (operand.Literal items)) true kind).0 in
-    let here = value-of s items moves is kind_is in
-    rw here refl
-one-value s (o ∷ p ∷ os) lists moves of kind values = absurd (false≢true (sym (and_right (is_of s o) false refl) ∙ of))
-
-pub moved-values : (o : Op) (os : List Operand) (lists : List Items) → IsMoving o → fit_table o os ≡ true → kinds_fit o os ≡ true → all_values lists ≡ true → all_values (columns_read os lists) ≡ true
-moved-values o os lists is sorts kinds values =
-    let here = moved-operand is.need is.moves in
-    let only : filter is_operand (is.need ∷ []) ≡ is.need ∷ [] = rw here refl in
-    let of : all_are is_of (is.need ∷ []) os ≡ true = ap (λ ss. all_are is_of ss os) (sym only) ∙ fits-one o os is sorts in
-    let sort_list : filter is_operand ((entry o).needs ++ (entry o).may) ≡ is.need ∷ [] =
-    ap (λ ss. filter is_operand (ss ++ (entry o).may)) is.needs ∙ ap (λ ms. filter is_operand (is.need ∷ ms)) is.may ∙ only in
-    let kind : all_are is_kind (take (length os) (is.need ∷ [])) os ≡ true = ap (λ ss. all_are is_kind (take (length os) ss) os) (sym sort_list) ∙ kinds in
-    one-value is.need os lists is.moves of kind values
 
 -- no call has more operands than the table names sorts
 few-of : (test : Sort → Operand → Bool) (ss : List Sort) (os : List Operand) → all_are test ss os ≡ true → length os ≡ length ss

@@ -153,7 +153,7 @@ weight-alike : {A : Type 0} (item : A → Item) → ((x : A) → item_weight (it
 weight-alike item each [] = omega arith
 weight-alike item each (x ∷ xs) = let cons = sum_by-cons item_weight (item x) (map item xs) in let here = each x in let rest = weight-alike item each xs in omega arith
 
-weight-items : (items : Items) → sum_by item_weight (items_of items) ≡ items_weight items
+pub weight-items : (items : Items) → sum_by item_weight (items_of items) ≡ items_weight items
 weight-items (Values vs) = sum_by-map item_weight item_of vs ∙ ap (λ (f : Value → ℕ). sum_by f vs) (λ i v. weight-item v i)
 weight-items (Ints ns) = weight-alike (λ n. IntegerItem n) (λ n. refl) ns
 weight-items (Flags bs) = weight-alike (λ b. FlagItem b) (λ b. refl) bs

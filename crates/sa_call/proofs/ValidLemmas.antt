@@ -1,5 +1,5 @@
 -- Calls on the one array of a descriptor, which has 20 entries, are valid.
-use Rattle.std.proofs.Common.{◌≡◌, inl, inr, ℕ, ◌≤◌, eqb, nat_lt, Bool, true, false, ◌&&◌, ◌||◌, cond, List, [], ◌∷◌, ◌++◌, length, Some, None, refl, sym, ap, ◌∙◌, subst}
+use Rattle.std.proofs.Common.{◌≡◌, inl, inr, ℕ, ◌≤◌, eqb, nat_lt, Bool, true, false, ◌&&◌, ◌||◌, cond, List, [], ◌∷◌, ◌++◌, length, map, Some, None, refl, sym, ap, ◌∙◌, subst}
 use Rattle.std.specs.List.{AllByRecursion}
 use Rattle.std.specs.Option.{option_and_then}
 use Rattle.std.proofs.lemmas.Bool.{and_from, or_cases, eqb-true, eq-eqb}
@@ -17,11 +17,11 @@ use Rattle.sa_call.specs.declared.decls.Kind.TheVariants as kind
 use Rattle.sa_call.specs.declared.form.Into.TheVariants as into
 use Rattle.sa_call.specs.declared.form.Sort.TheVariants as sort
 use Rattle.sa_call.specs.Calls.{is_length_of}
-use Rattle.sa_call.specs.Decls.{Declared, length_at}
+use Rattle.sa_call.specs.Decls.{Declared, array_at, kind_of, length_at}
 use Rattle.sa_call.specs.Forms.{descr_of, entry}
-use Rattle.sa_call.specs.declared.form.Results.{Results}
-use Rattle.sa_call.specs.declared.form.Results.TheVariants as results
-use Rattle.sa_call.specs.Valid.{IsCall, are_of, are_values, is_empty, is_view_of, results_fit}
+use Rattle.sa_call.specs.Valid.{IsCall, are_of, is_empty, is_view_of}
+use Rattle.sa_call.specs.Kinds.{are_values, fits_kind, is_same_kind, lists_fit}
+use Rattle.sa_call.specs.Told.{view_counts}
 use Rattle.sa_call.proofs.CountLemmas.{joined-one}
 
 abbrev twenty : ArrayDecl
@@ -32,6 +32,10 @@ view-valid d v arrays array fit =
     ap (λ (all : List ArrayDecl). nat_lt v.array (length all) && fits (length_at all v.array) v) arrays
     ∙ ap (λ k. nat_lt k 1 && fits (length_at (twenty ∷ []) k) v) array
     ∙ fit
+
+-- its items are values
+pub str-kind : (d : Declared) (array : ℕ) → d.arrays ≡ twenty ∷ [] → array ≡ 0 → kind_of d array ≡ kind.Str
+str-kind d array arrays first = ap (λ (all : List ArrayDecl). (array_at all array).kind) arrays ∙ ap (λ k. (array_at (twenty ∷ []) k).kind) first
 
 joined-same : (n : ℕ) → joined n n ≡ Some n
 joined-same n = go (eqb n 1) (eqb n n) (eq-eqb n n refl)
@@ -56,9 +60,9 @@ pub set-valid : (d : Declared) (items : Items) (v : View) → d.arrays ≡ twent
     → AllByRecursion IsTextValue (values_of items) → are_values items ≡ true → (eqb (count_of items) 1 || eqb (count_of items) v.count) ≡ true → IsCall d (record { op = op.Set; operands = operand.Literal items ∷ []; out = Some v })
 set-valid d items v arrays array fit some few texts values lengths = record {
   sorts = refl;
-  kinds = and_from (are_values items) true values refl;
+  kinds = refl;
   rules = refl;
-  results = refl;
+  results = and_from (fits_kind (kind_of d v.array) items) true (ap (λ x. fits_kind x items) (str-kind d v.array arrays array) ∙ values) refl;
   output = refl;
   views = refl;
   into = view-valid d v arrays array fit;
@@ -73,7 +77,7 @@ copy-valid d v w arrays from from_fits array fit lengths = record {
   sorts = refl;
   kinds = refl;
   rules = refl;
-  results = refl;
+  results = and_from (is_same_kind (kind_of d v.array) (kind_of d w.array)) true (ap (λ x. is_same_kind x (kind_of d w.array)) (str-kind d v.array arrays from) ∙ ap (λ x. is_same_kind kind.Str x) (str-kind d w.array arrays array)) refl;
   output = refl;
   views = and_from (is_view_of d v) true (view-valid d v arrays from from_fits) refl;
   into = view-valid d w arrays array fit;
@@ -100,17 +104,11 @@ or-right : (a b : Bool) → b ≡ true → (a || b) ≡ true
 or-right true b e = refl
 or-right false b e = e
 
-results-none : (kind : Results) → results_fit kind None ≡ true
-results-none results.Moved = refl
-results-none results.Texts = refl
-results-none results.Numbers = refl
-results-none results.Flags = refl
-
 pub whole-valid : (d : Declared) (o : Op) → length d.descrs ≡ 1 → (entry o).needs ≡ sort.Descr ∷ [] → (entry o).may ≡ [] → (entry o).into ≡ into.Never → (entry o).group ≡ None → descr_of o ≡ Some 0 → IsCall d (record { op = o; operands = []; out = None })
 whole-valid d o one takes alone never moves first = record {
   sorts = or-right (is_empty (entry o).defaults && are_of (entry o).needs []) (are_of ((entry o).needs ++ (entry o).may) []) (ap (λ ss. are_of (ss ++ (entry o).may) []) takes ∙ ap (λ ms. are_of (sort.Descr ∷ ms) []) alone);
   kinds = refl;
-  results = results-none (entry o).results;
+  results = refl;
   output = rw never refl;
   views = refl;
   into = refl;
@@ -119,3 +117,9 @@ whole-valid d o one takes alone never moves first = record {
   rules = rw moves refl;
   literals = tt;
 }
+
+-- a list of values is one that a view of the array reads
+pub read-one : (d : Declared) (v : View) (items : Items) → d.arrays ≡ twenty ∷ [] → v.array ≡ 0 → count_of items ≡ v.count → are_values items ≡ true
+    → (map count_of (items ∷ []) ≡ view_counts (operand.View v ∷ [])) × (lists_fit d (operand.View v ∷ []) (items ∷ []) ≡ true)
+read-one d v items arrays array count values =
+    (ap (λ n. n ∷ []) count, and_from (fits_kind (kind_of d v.array) items) true (ap (λ x. fits_kind x items) (str-kind d v.array arrays array) ∙ values) refl)

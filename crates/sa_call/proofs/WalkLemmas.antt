@@ -18,16 +18,19 @@ use Rattle.sa_call.specs.declared.reply.Refusal.TheVariants as refusal
 use Rattle.sa_call.specs.declared.element.Stop.{Stop}
 use Rattle.sa_call.specs.declared.element.Stop.TheVariants as stop
 use Rattle.sa_call.specs.Elements.{StopsElement, admitted, and_admitted, and_later, gathered, is_missing_item, with_front}
-use Rattle.sa_call.specs.Walks.{HaltsResults, halt_at, joined, no_results, results_with, with_result}
+use Rattle.sa_call.specs.Walks.{HaltsResults, computed_items, halt_at, joined, no_results, results_with, with_result}
 use Rattle.sa_plain.specs.Items.{item_weight}
 
 -- what is joined to no results is what is gathered
-pub joined-none : (kind : Results) (r : Result (List Item) (Refusal × ℕ)) → joined (no_results kind) r ≡ results_as kind r
+pub joined-none : (kind : Results) (r : Result (List Item) (Refusal × ℕ)) → joined (no_results kind) r ≡ results_as (computed_items kind) r
 joined-none results.Moved (Ok items) = refl
 joined-none results.Texts (Ok items) = refl
 joined-none results.Numbers (Ok items) = refl
 joined-none results.Flags (Ok items) = refl
-joined-none kind (Err refused) = refl
+joined-none results.Moved (Err refused) = refl
+joined-none results.Texts (Err refused) = refl
+joined-none results.Numbers (Err refused) = refl
+joined-none results.Flags (Err refused) = refl
 
 -- an item in front of what is gathered is one result more
 with-front : (rs : ResultList) (item : Item) (items : List Item) → results_with rs (item ∷ items) ≡ results_with (with_result rs item) items

@@ -1,12 +1,13 @@
 -- Calls: their views, and the number of their elements.
-use Rattle.std.specs.Prelude.{ℕ, ◌==◌, Bool, true, false, List, [], ◌∷◌, ◌++◌, Option, Some, None, unwrap_or, map}
+use Rattle.std.specs.Prelude.{ℕ, ◌==◌, Bool, true, false, List, [], ◌∷◌, ◌++◌, Option, Some, None, unwrap_or, map, if◌then◌else◌}
+use Rattle.std.specs.List.{flat_map}
 use Rattle.sa_view.specs.declared.view.View.{View}
 use Rattle.sa_view.specs.Broadcasts.{broadcast}
 use Rattle.sa_plain.specs.Items.{count_of}
 use Rattle.sa_call.specs.declared.call.Operand.{Operand}
 use Rattle.sa_call.specs.declared.call.Operand.TheVariants as operand
 use Rattle.sa_call.specs.declared.call.Call.{Call}
-use Rattle.sa_call.specs.Decls.{Declared, home_of}
+use Rattle.sa_call.specs.Decls.{Declared, home_of, is_strings_array}
 
 -- how many items an operand has
 abbrev pub operand_count : Operand → ℕ
@@ -48,6 +49,12 @@ abbrev pub output_arrays : Option View → List ℕ
 output_arrays None = []
 output_arrays (Some out) = out.array ∷ []
 
--- the descriptors of these arrays
+-- the descriptors of those of these arrays that are strings arrays
+abbrev pub strings_home : Declared → ℕ → List ℕ
+strings_home decls array = if is_strings_array decls array then home_of decls array ∷ [] else []
+
+abbrev pub strings_homes : Declared → List ℕ → List ℕ
+strings_homes decls arrays = flat_map (strings_home decls) arrays
+
 abbrev pub homes_in : Declared → Call → List ℕ
-homes_in decls call = map (home_of decls) (operand_arrays call.operands ++ output_arrays call.out)
+homes_in decls call = strings_homes decls (operand_arrays call.operands ++ output_arrays call.out)

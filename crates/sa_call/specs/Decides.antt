@@ -2,15 +2,14 @@
 use Rattle.std.specs.Prelude.{ℕ, nat_lt, Bool, false, not, List, [], map, Option, Some, None, Result, Ok, Err, if◌then◌else◌}
 use Rattle.sa_base.specs.Items.{Item}
 use Rattle.sa_base.specs.Deeds.{Part, Read, Weighed, Counted, Pictured, PictureWeighed, part_at}
-use Rattle.sa_text.specs.Values.{value_of}
 use Rattle.sa_descr.specs.Missing.{miss_of}
 use Rattle.sa_descr.specs.Rules.{combination, is_given, rule_at, rules_of}
 use Rattle.sa_descr.specs.declared.descr.NaRule.{NaRule}
 use Rattle.sa_descr.specs.declared.descr.NaRule.TheVariants.{Absent, Nan, Other, Txt}
 use Rattle.sa_descr.specs.declared.missing.MissGroup.{MissGroup}
 use Rattle.sa_view.specs.declared.view.View.{View}
+use Rattle.sa_plain.specs.Plains.{padded_item}
 use Rattle.sa_plain.specs.declared.items.Items.{Items}
-use Rattle.sa_plain.specs.declared.items.Items.TheVariants.{Values, Ints, Flags}
 use Rattle.sa_call.specs.declared.call.Call.{Call}
 use Rattle.sa_call.specs.declared.form.Results.{Results}
 use Rattle.sa_call.specs.declared.form.Results.TheVariants as results
@@ -22,7 +21,8 @@ use Rattle.sa_call.specs.declared.reply.Outcome.{Outcome}
 use Rattle.sa_call.specs.Calls.{elements_in, homes_in}
 use Rattle.sa_call.specs.Decls.{Declared, home_of}
 use Rattle.sa_call.specs.Elements.{Setting, elements, gathered}
-use Rattle.sa_call.specs.Forms.{descr_of, entry, flag_in, number_in}
+use Rattle.sa_call.specs.Forms.{descr_of, entry}
+use Rattle.sa_call.specs.Kinds.{ListKind, first_items, given_items, items_as, output_width}
 use Rattle.sa_call.specs.Limits.{most_weight}
 use Rattle.sa_call.specs.Parts.{Parts, items_read, weight_read, columns_of}
 
@@ -66,15 +66,28 @@ setting_by (Some group) rule = record { miss = Some (miss_of group rule); blank 
 abbrev pub setting_of : Declared → Call → Setting
 setting_of decls call = setting_by (entry call.op).group (rule_in decls call)
 
--- items as a list of the kind that a call gives; until plain arrays are in a script what is moved are values
-abbrev pub items_as : Results → List Item → Items
-items_as results.Moved items = Values (map value_of items)
-items_as results.Texts items = Values (map value_of items)
-items_as results.Numbers items = Ints (map number_in items)
-items_as results.Flags items = Flags (map flag_in items)
+-- what is moved is given as the output holds it, a text of a fixed width with zeros behind it; what is computed is given as it is
+abbrev pub given_item : Results → ℕ → Item → Item
+given_item results.Moved width item = padded_item width item
+given_item results.Texts width item = item
+given_item results.Numbers width item = item
+given_item results.Flags width item = item
+
+-- an element that is refused stays so
+abbrev pub given_element : (Item → Item) → Result Item Refusal → Result Item Refusal
+given_element item (Ok found) = Ok (item found)
+given_element item (Err cause) = Err cause
+
+-- the elements of a call as it gives them
+abbrev pub given_elements : Declared → Call → List (List Item) → List (Result Item Refusal)
+given_elements decls call columns = map (given_element (given_item (entry call.op).results (output_width decls call.out))) (elements (setting_of decls call) call.op columns (elements_in call))
+
+-- what the items that a call gives are
+abbrev pub kind_given : Declared → Call → ListKind
+kind_given decls call = given_items (entry call.op).results (first_items decls call.operands)
 
 -- the results, or the first refusal and its place
-abbrev pub results_as : Results → Result (List Item) (Refusal × ℕ) → Result Items (Refusal × ℕ)
+abbrev pub results_as : ListKind → Result (List Item) (Refusal × ℕ) → Result Items (Refusal × ℕ)
 results_as kind (Ok items) = Ok (items_as kind items)
 results_as kind (Err refused) = Err refused
 
@@ -87,7 +100,7 @@ outcome_of (Some out) (Ok results) = record { results = Some results; reply = re
 -- what comes of the items of the operands, which have this weight
 abbrev pub outcome_on : Declared → Call → ℕ → List (List Item) → Outcome
 outcome_on decls call weight columns =
-    outcome_of call.out (results_as (entry call.op).results (gathered (forbids decls call.out) weight 0 (elements (setting_of decls call) call.op columns (elements_in call))))
+    outcome_of call.out (results_as (kind_given decls call) (gathered (forbids decls call.out) weight 0 (given_elements decls call columns)))
 
 abbrev pub done : Reply → Outcome
 done answer = record { results = None; reply = answer }

@@ -6,6 +6,7 @@ pub mod Decides
 pub mod Decls
 pub mod Elements
 pub mod Forms
+pub mod Kinds
 pub mod Laws
 pub mod Limits
 pub mod Parts

@@ -1,12 +1,11 @@
 -- What was read for a call, told by descriptor.
-use Rattle.std.specs.Prelude.{◌≡◌, ℕ, ◌+◌, ◌<◌, ◌≤◌, ◌==◌, Bool, true, false, ◌||◌, List, [], ◌∷◌, ◌++◌, length, take, map, filter, count_by, sum, sum_by, zip, Option, Some, None, if◌then◌else◌}
+use Rattle.std.specs.Prelude.{◌≡◌, ℕ, ◌+◌, ◌<◌, ◌≤◌, ◌==◌, Bool, true, false, ◌&&◌, ◌||◌, not, List, [], ◌∷◌, ◌++◌, length, take, map, filter, count_by, sum, sum_by, zip, Option, Some, None, if◌then◌else◌}
 use Rattle.std.specs.List.{range_with_len, list_any}
 use Rattle.sa_base.specs.Items.{Item}
 use Rattle.sa_base.specs.Deeds.{Place, Part, Read, Weighed, Counted, Pictured, PictureWeighed}
 use Rattle.sa_view.specs.Views.{places_of}
 use Rattle.sa_view.specs.declared.view.View.{View}
 use Rattle.sa_plain.specs.Items.{count_of, items_of}
-use Rattle.sa_call.specs.Valid.{all_values}
 use Rattle.sa_plain.specs.declared.items.Items.{Items}
 use Rattle.sa_call.specs.declared.call.Operand.{Operand}
 use Rattle.sa_call.specs.declared.call.Operand.TheVariants as operand
@@ -16,21 +15,22 @@ use Rattle.sa_call.specs.declared.form.Gives.{Gives}
 use Rattle.sa_call.specs.declared.form.Gives.TheVariants as gives
 use Rattle.sa_call.specs.declared.operands.Operands.{Operands}
 use Rattle.sa_call.specs.declared.operands.Operands.TheVariants as operands
-use Rattle.sa_call.specs.Decls.{Declared, home_of}
+use Rattle.sa_call.specs.Decls.{Declared, home_of, is_strings, is_strings_array}
 use Rattle.sa_call.specs.Forms.{entry, descr_of}
+use Rattle.sa_call.specs.Kinds.{lists_fit}
 use Rattle.sa_call.specs.Limits.{most_weight, most_entries}
 use Rattle.sa_call.specs.Parts.{Parts, literal_weight, weight_read}
 
--- an array is one of this descriptor's
-abbrev pub is_at : ℕ → ArrayDecl → Bool
-is_at home a = a.home == home
+-- an array is a strings array, or else a plain one, of this descriptor's
+abbrev pub is_among : Bool → ℕ → ArrayDecl → Bool
+is_among strings home a = a.home == home && (if strings then is_strings a.kind else not (is_strings a.kind))
 
--- the place of an array among those of its home
+-- the place of an array among those of its home that are strings arrays as it is, or plain as it is
 abbrev pub index_at_home : Declared → ℕ → ℕ
-index_at_home decls array = count_by (is_at (home_of decls array)) (take array decls.arrays)
+index_at_home decls array = count_by (is_among (is_strings_array decls array) (home_of decls array)) (take array decls.arrays)
 
 abbrev pub place_in : Declared → View → ℕ → Place
-place_in decls v place = record { is_strings = true; array = index_at_home decls v.array; place = place }
+place_in decls v place = record { is_strings = is_strings_array decls v.array; array = index_at_home decls v.array; place = place }
 
 -- a view as places of its home
 abbrev pub places_in : Declared → View → List Place
@@ -99,12 +99,12 @@ has_weight gives.Items = true
 has_weight gives.Statistics = false
 has_weight gives.Picture = true
 
--- Operands are those of a call: a list of values for each view, as long as it; statistics; a picture; or the weight of what weighs too much.
-abbrev pub AreOperands : Call → Operands → Type 0
-AreOperands call (operands.Items lists) = ((entry call.op).gives ≡ gives.Items) × (map count_of lists ≡ view_counts call.operands) × (all_values lists ≡ true)
-AreOperands call (operands.Stats stats) = (entry call.op).gives ≡ gives.Statistics
-AreOperands call (operands.Picture p) = ((entry call.op).gives ≡ gives.Picture) × (length p.entries ≤ most_entries)
-AreOperands call (operands.Big weight) = (has_weight (entry call.op).gives ≡ true) × (most_weight < weight)
+-- Operands are those of a call: a list for each view, as long as it and of the kind of its array; statistics; a picture; or the weight of what weighs too much.
+abbrev pub AreOperands : Declared → Call → Operands → Type 0
+AreOperands decls call (operands.Items lists) = ((entry call.op).gives ≡ gives.Items) × (map count_of lists ≡ view_counts call.operands) × (lists_fit decls call.operands lists ≡ true)
+AreOperands decls call (operands.Stats stats) = (entry call.op).gives ≡ gives.Statistics
+AreOperands decls call (operands.Picture p) = ((entry call.op).gives ≡ gives.Picture) × (length p.entries ≤ most_entries)
+AreOperands decls call (operands.Big weight) = (has_weight (entry call.op).gives ≡ true) × (most_weight < weight)
 
 -- these are the weights of what was not read, since it weighs too much: a number for each descriptor, and with the literals together the weight
 abbrev pub AreWeights : Declared → Call → Operands → List ℕ → Type 0

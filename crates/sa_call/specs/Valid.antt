@@ -1,10 +1,10 @@
 -- Calls that are valid under declarations, by the table of calls.
-use Rattle.std.specs.Prelude.{◌≡◌, ◌≤◌, ℕ, ℤ, nat_lt, Bool, true, false, ◌&&◌, ◌||◌, not, List, [], ◌∷◌, ◌++◌, length, take, filter, Option, Some, None, is_some, is_none, is_ok}
+use Rattle.std.specs.Prelude.{◌≡◌, ◌≤◌, ℕ, ℤ, nat_lt, Bool, true, false, ◌&&◌, ◌||◌, not, List, [], ◌∷◌, ◌++◌, length, take, filter, Option, Some, None, is_none, is_some, is_ok}
 use Rattle.std.specs.List.{AllByRecursion, list_all, list_any}
 use Rattle.sa_text.specs.Values.{IsTextValue, is_missing}
 use Rattle.sa_view.specs.Views.{fits}
 use Rattle.sa_view.specs.declared.view.View.{View}
-use Rattle.sa_plain.specs.Items.{count_of, values_in, values_of}
+use Rattle.sa_plain.specs.Items.{count_of, values_of}
 use Rattle.sa_plain.specs.declared.items.Items.{Items}
 use Rattle.sa_plain.specs.declared.items.Items.TheVariants.{Values, Ints, Flags, Bytes, Units}
 use Rattle.sa_descr.specs.Rules.{combination, rules_of}
@@ -19,8 +19,10 @@ use Rattle.sa_call.specs.declared.form.Results.TheVariants as results
 use Rattle.sa_call.specs.declared.form.Into.{Into}
 use Rattle.sa_call.specs.declared.form.Into.TheVariants as into
 use Rattle.sa_call.specs.Calls.{homes_in, lengths_fit}
-use Rattle.sa_call.specs.Decls.{Declared, length_at}
+use Rattle.sa_call.specs.declared.decls.Kind.{Kind}
+use Rattle.sa_call.specs.Decls.{Declared, is_strings, is_strings_array, kind_of, length_at}
 use Rattle.sa_call.specs.Forms.{entry, descr_of, is_operand}
+use Rattle.sa_call.specs.Kinds.{are_values, fits_kind, holds_numbers, holds_truths, is_same_kind}
 use Rattle.sa_call.specs.Limits.{most_items}
 
 -- an operand has the spelling of its sort: a view, a list, or any of the two
@@ -34,12 +36,9 @@ is_of sort.Numbers o = true
 is_of sort.Fill o = false
 is_of sort.Descr o = false
 
--- an operand has the kind of its sort: texts of which none is missing, numbers, or values
+-- an operand has the kind of its sort: texts of which none is missing, or numbers; what is moved may be of any kind
 abbrev pub has_missing : Items → Bool
 has_missing items = list_any is_missing (values_of items)
-
-abbrev pub are_values : Items → Bool
-are_values items = is_some (values_in items)
 
 abbrev pub are_numbers : Items → Bool
 are_numbers (Values values) = false
@@ -48,19 +47,15 @@ are_numbers (Flags flags) = false
 are_numbers (Bytes rows) = false
 are_numbers (Units rows) = false
 
-abbrev pub all_values : List Items → Bool
-all_values lists = list_all are_values lists
-
-abbrev pub is_kind : Sort → Operand → Bool
-is_kind sort.View o = true
-is_kind sort.Literal (operand.View v) = true
-is_kind sort.Literal (operand.Literal items) = are_values items
-is_kind sort.Texts (operand.View v) = true
-is_kind sort.Texts (operand.Literal items) = are_values items && not (has_missing items)
-is_kind sort.Numbers (operand.View v) = false
-is_kind sort.Numbers (operand.Literal items) = are_numbers items
-is_kind sort.Fill o = true
-is_kind sort.Descr o = true
+abbrev pub is_kind : Declared → Sort → Operand → Bool
+is_kind d sort.View o = true
+is_kind d sort.Literal o = true
+is_kind d sort.Texts (operand.View v) = is_strings_array d v.array
+is_kind d sort.Texts (operand.Literal items) = are_values items && not (has_missing items)
+is_kind d sort.Numbers (operand.View v) = holds_numbers (kind_of d v.array)
+is_kind d sort.Numbers (operand.Literal items) = are_numbers items
+is_kind d sort.Fill o = true
+is_kind d sort.Descr o = true
 
 -- there is an operand for each of these sorts, and each passes
 abbrev pub all_are : (Sort → Operand → Bool) → List Sort → List Operand → Bool
@@ -81,19 +76,28 @@ abbrev pub fit_table : Op → List Operand → Bool
 fit_table o operands = (is_empty (entry o).defaults && are_of (entry o).needs operands) || are_of ((entry o).needs ++ (entry o).may) operands
 
 -- each operand has the kind that the table asks for
-abbrev pub kinds_fit : Op → List Operand → Bool
-kinds_fit o operands = all_are is_kind (take (length operands) (filter is_operand ((entry o).needs ++ (entry o).may))) operands
+abbrev pub kinds_fit : Declared → Op → List Operand → Bool
+kinds_fit d o operands = all_are (is_kind d) (take (length operands) (filter is_operand ((entry o).needs ++ (entry o).may))) operands
 
--- texts go into strings arrays, and there are no others; other results are answered
-abbrev pub results_fit : Results → Option View → Bool
-results_fit results.Moved out = true
-results_fit results.Texts out = true
-results_fit results.Numbers out = is_none out
-results_fit results.Flags out = is_none out
+-- an operand may be moved into an array of a kind: a view of an array of the same kind and width, or items that the array may hold
+abbrev pub moves_into : Declared → Kind → Operand → Bool
+moves_into d k (operand.View v) = is_same_kind (kind_of d v.array) k
+moves_into d k (operand.Literal items) = fits_kind k items
+
+-- results go into an array of their kind
+abbrev pub goes_into : Declared → Kind → List Operand → Results → Bool
+goes_into d k operands results.Moved = list_all (moves_into d k) operands
+goes_into d k operands results.Texts = is_strings k
+goes_into d k operands results.Numbers = holds_numbers k
+goes_into d k operands results.Flags = holds_truths k
+
+abbrev pub results_fit : Declared → Results → List Operand → Option View → Bool
+results_fit d given operands None = true
+results_fit d given operands (Some out) = goes_into d (kind_of d out.array) operands given
 
 -- the operands and the results have the kinds that the table asks for
-abbrev pub call_kinds_fit : Call → Bool
-call_kinds_fit call = kinds_fit call.op call.operands && results_fit (entry call.op).results call.out
+abbrev pub call_kinds_fit : Declared → Call → Bool
+call_kinds_fit d call = kinds_fit d call.op call.operands && results_fit d (entry call.op).results call.operands call.out
 
 -- the rules of the call's views combine, where missing values are not moved as they are
 abbrev pub rules_fit : Declared → Call → Bool
@@ -135,8 +139,8 @@ IsLiteralOperand (operand.Literal items) = IsLiteral items
 -- The call is valid under these declarations: operands and output are those that the table asks for, views fit declared arrays, a descriptor is declared, the counts fit, and the rules combine.
 pub record IsCall (d : Declared) (call : Call) : Type 0 where
   pub sorts : fit_table call.op call.operands ≡ true
-  pub kinds : kinds_fit call.op call.operands ≡ true
-  pub results : results_fit (entry call.op).results call.out ≡ true
+  pub kinds : kinds_fit d call.op call.operands ≡ true
+  pub results : results_fit d (entry call.op).results call.operands call.out ≡ true
   pub output : output_stands (entry call.op).into call.out ≡ true
   pub views : list_all (is_operand_of d) call.operands ≡ true
   pub into : is_output_of d call.out ≡ true

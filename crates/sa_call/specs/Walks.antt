@@ -8,7 +8,14 @@ use Rattle.sa_call.specs.declared.form.Results.{Results}
 use Rattle.sa_call.specs.declared.form.Results.TheVariants as results
 use Rattle.sa_call.specs.declared.results.ResultList.{ResultList}
 use Rattle.sa_call.specs.declared.results.ResultList.TheVariants as so_far
-use Rattle.sa_call.specs.Forms.{flag_in, number_in}
+use Rattle.sa_call.specs.Forms.{entry, flag_in, number_in}
+use Rattle.sa_call.specs.declared.call.Call.{Call}
+use Rattle.sa_call.specs.declared.reply.Outcome.{Outcome}
+use Rattle.sa_call.specs.Calls.{elements_in}
+use Rattle.sa_call.specs.Decides.{forbids, outcome_of, results_as, setting_of}
+use Rattle.sa_call.specs.Decls.{Declared}
+use Rattle.sa_call.specs.Elements.{elements, gathered}
+use Rattle.sa_call.specs.Kinds.{ListKind, OfValues, given_items}
 use Rattle.sa_call.specs.declared.element.Stop.{Stop}
 use Rattle.sa_call.specs.declared.element.Stop.TheVariants as stop
 use Rattle.sa_call.specs.declared.reply.Refusal.{Refusal}
@@ -40,6 +47,15 @@ abbrev pub with_result : ResultList → Item → ResultList
 with_result (so_far.Values values) item = so_far.Values (values ++ value_of item ∷ [])
 with_result (so_far.Numbers numbers) item = so_far.Numbers (numbers ++ number_in item ∷ [])
 with_result (so_far.Flags flags) item = so_far.Flags (flags ++ flag_in item ∷ [])
+
+-- what a call that moves nothing gives
+abbrev pub computed_items : Results → ListKind
+computed_items kind = given_items kind OfValues
+
+-- what comes of a call that moves nothing
+abbrev pub computed_outcome : Declared → Call → ℕ → List (List Item) → Outcome
+computed_outcome decls call weight columns =
+    outcome_of call.out (results_as (computed_items (entry call.op).results) (gathered (forbids decls call.out) weight 0 (elements (setting_of decls call) call.op columns (elements_in call))))
 
 abbrev pub no_results : Results → ResultList
 no_results results.Moved = so_far.Values []

@@ -1,7 +1,8 @@
 ghost use Rattle.std.specs.Prelude.{◌≡◌};
-ghost use Rattle.sa_call.specs.Decls.{IsDeclared};
+ghost use Rattle.sa_call.specs.Decls.{IsDeclared, is_strings};
 
 use sa_descr::Descr;
+use sa_plain::PlainKind;
 use std::marker::Model;
 
 /// What the items of an array are.
@@ -9,6 +10,20 @@ use std::marker::Model;
 pub enum Kind {
     /// Values: texts, and missing ones where the descriptor's rule allows them.
     Str,
+    /// Numbers, flags, or texts of a fixed width.
+    Plain(PlainKind),
+}
+
+impl Kind {
+    /// Whether it is that of a strings array.
+    pub fn is_strings(self) -> bool
+        ensures { result ≡ is_strings self }
+    {
+        match self {
+            Kind::Str => true,
+            Kind::Plain(_) => false,
+        }
+    }
 }
 
 /// A declared array: the number of its home descriptor, its kind and its length.
@@ -21,7 +36,7 @@ pub struct ArrayDecl {
 
 /// The declared descriptors and arrays, each numbered from 0 in order of declaration. Each array's
 /// home is one of the descriptors; there are at most 8 descriptors and 64 arrays, and the arrays of
-/// one descriptor have at most 8,192 entries together.
+/// one descriptor have at most 8,192 entries together, and a width is from 1 to 256.
 #[derive(Debug, Drop)]
 pub struct Decls {
     descrs: Vec<Descr>,

@@ -2,14 +2,16 @@ ghost use Rattle.std.specs.Prelude.{ℕ, ◌≡◌, ◌≤◌, List, length, map
 ghost use Rattle.std.specs.List.{All};
 ghost use Rattle.sa_plain.specs.Items.{count_of, items_of};
 ghost use Rattle.sa_call.specs.Calls.{elements_in, operand_count};
-ghost use Rattle.sa_call.specs.Columns.{columns_read, columns_weight, outcome_read};
+ghost use Rattle.sa_call.specs.Columns.{columns_read, columns_weight, outcome_read, AreColumns};
 ghost use Rattle.sa_call.specs.Decides.{decide, done, outcome_of, outcome_on, refused_with};
 ghost use Rattle.sa_call.specs.Decls.{IsDeclared};
 ghost use Rattle.sa_call.specs.Forms.{entry, IsMoving};
+ghost use Rattle.sa_call.specs.Kinds.{lists_fit, output_fits};
 ghost use Rattle.sa_call.specs.Limits.{most_entries, most_items, most_weight};
 ghost use Rattle.sa_base.specs.Deeds.{picture_weight};
 ghost use Rattle.sa_call.specs.Told.{parts_told, view_counts, AreOperands, AreWeights};
-ghost use Rattle.sa_call.specs.Valid.{IsCall, all_values};
+ghost use Rattle.sa_call.specs.Valid.{IsCall};
+ghost use Rattle.sa_call.specs.Walks.{computed_outcome};
 ghost use Rattle.sa_call.specs.declared.form.Gives.TheVariants.{Items as GivesItems};
 ghost use Rattle.sa_call.specs.declared.reply.Refusal.TheVariants.{TooMuch};
 ghost use Rattle.sa_call.specs.declared.reply.Reply.TheVariants.{Pictured};
@@ -19,7 +21,7 @@ use crate::columns::{columns, columns_weight};
 use crate::decls::Decls;
 use crate::element::Setting;
 use crate::operands::{Operands, Picture};
-use crate::refusals::{MOST_WEIGHT, forbids, results_refusal};
+use crate::refusals::{MOST_WEIGHT, forbids, output_width, results_refusal};
 use crate::reply::{Outcome, Refusal, Reply};
 use crate::rules::{rule_in, text_of_rule};
 use crate::walking::{Halt, walk};
@@ -30,7 +32,7 @@ use sa_view::broadcast;
 use std::alloc::Global;
 
 /// What comes of a call, by what was read for it: its results, where it has an output and is not refused,
-/// and its reply. `Memory` where there is no memory for the outcome.
+/// and its reply. The results may be put into the output. `Memory` where there is no memory for the outcome.
 pub fn evaluate(
     alloc: Global,
     decls: &Decls,
@@ -38,8 +40,9 @@ pub fn evaluate(
     read: &Operands,
 ) -> Result<Outcome, Memory>
     requires call { IsCall decls.now call.now }
-    requires read { AreOperands call.now read.now }
-    ensures { IfOk result (λ o. (weights : List ℕ) → AreWeights decls.now call.now read.now weights → o ≡ decide decls.now call.now (parts_told decls.now call.now read.now weights)) }
+    requires read { AreOperands decls.now call.now read.now }
+    ensures decided { IfOk result (λ o. (weights : List ℕ) → AreWeights decls.now call.now read.now weights → o ≡ decide decls.now call.now (parts_told decls.now call.now read.now weights)) }
+    ensures fits { IfOk result (λ o. output_fits decls.now call.now.out o.results ≡ true) }
 {
     match read {
         Operands::Big(_) => Ok(Outcome::refused(Refusal::TooMuch, 0)),
@@ -74,8 +77,9 @@ fn evaluate_items(
     requires call { IsCall decls.now call.now }
     requires items { (entry call.now.op).gives ≡ GivesItems }
     requires lists { map count_of lists.now ≡ view_counts call.now.operands }
-    requires values { all_values lists.now ≡ true }
-    ensures { IfOk result (λ o. o ≡ outcome_read decls.now call.now (columns_read call.now.operands lists.now)) }
+    requires fit { lists_fit decls.now call.now.operands lists.now ≡ true }
+    ensures outcome { IfOk result (λ o. o ≡ outcome_read decls.now call.now (columns_read call.now.operands lists.now)) }
+    ensures fits { IfOk result (λ o. output_fits decls.now call.now.out o.results ≡ true) }
 {
     let columns = columns(alloc, call.operands.as_slice(), lists)?;
     let columns = columns.as_slice();
@@ -101,19 +105,21 @@ fn moved(
     requires call { IsCall decls.now call.now }
     requires moves { IsMoving call.now.op }
     requires counts { map (λ c. count_of c.now) columns.now ≡ map operand_count call.now.operands }
-    requires values { all_values (map (λ c. c.now) columns.now) ≡ true }
+    requires columns { AreColumns decls.now call.now.operands (map (λ c. c.now) columns.now) }
     requires light { weight ≤ most_weight }
-    ensures { IfOk result (λ o. o ≡ outcome_on decls.now call.now weight (map (λ c. items_of c.now) columns.now)) }
+    ensures outcome { IfOk result (λ o. o ≡ outcome_on decls.now call.now weight (map (λ c. items_of c.now) columns.now)) }
+    ensures fits { IfOk result (λ o. output_fits decls.now call.now.out o.results ≡ true) }
 {
-    let Some(Items::Values(values)) = columns.first() else {
+    let Some(items) = columns.first() else {
         unreachable!()
     };
     let count = elements_in(alloc, call)? as usize;
-    let results = values.stretched(alloc, count)?;
+    let width = output_width(decls, &call.out);
+    let results = items.stretched(alloc, count)?.widened(alloc, width)?;
     let forbidden = forbids(decls, &call.out);
     match results_refusal(forbidden, weight, &results) {
         Some((cause, at)) => Ok(Outcome::refused(cause, at)),
-        None => Ok(given(call, Items::Values(results))),
+        None => Ok(given(call, results)),
     }
 }
 
@@ -130,7 +136,7 @@ fn made(
     requires call { IsCall decls.now call.now }
     requires group { (entry call.now.op).group ≡ Some group }
     requires light { weight ≤ most_weight }
-    ensures { IfOk result (λ o. o ≡ outcome_on decls.now call.now weight (map (λ c. items_of c.now) columns.now)) }
+    ensures { IfOk result (λ o. o ≡ computed_outcome decls.now call.now weight (map (λ c. items_of c.now) columns.now)) }
 {
     let count = elements_in(alloc, call)?;
     let rule = rule_in(alloc, decls, call)?;

@@ -30,8 +30,8 @@ pub use laws::parts_decide;
 pub use operands::{EntryList, Operands, Picture};
 pub use refusals::MOST_WEIGHT;
 pub use reply::{Outcome, Refusal, Reply};
-pub use rules::{home_of, homes_in};
-pub use sa_plain::{ByteList, IntList, Items, ItemsList};
+pub use rules::{home_of, homes_in, is_strings_array, kind_of};
+pub use sa_plain::{ByteList, IntList, Items, ItemsList, PlainKind};
 pub use sa_text::ValueList;
 pub use sa_view::View;
 

@@ -1,14 +1,19 @@
-ghost use Rattle.std.specs.Prelude.{◌≡◌, ◌≤◌, ◌<◌, ◌*◌, ◌^◌, length, Some, true};
-ghost use Rattle.sa_text.specs.Values.{stretched, weight_of};
+ghost use Rattle.std.specs.Prelude.{◌≡◌, ◌≤◌, ◌<◌, slice_index_or, true};
+ghost use Rattle.sa_base.specs.Items.{MissingItem};
+ghost use Rattle.sa_plain.specs.Items.{count_of, items_of};
+ghost use Rattle.sa_plain.specs.Widths.{most_width};
 ghost use Rattle.sa_call.specs.Decides.{forbids};
+ghost use Rattle.sa_call.specs.Kinds.{output_width};
 ghost use Rattle.sa_call.specs.Limits.{most_weight};
 ghost use Rattle.sa_call.specs.Refusals.{refused, refusal_of};
 ghost use Rattle.sa_call.specs.Valid.{is_output_of};
 
-use crate::decls::Decls;
+use crate::decls::{Decls, Kind};
 use crate::reply::Refusal;
+use crate::row::is_missing_at;
+use crate::rules::kind_of;
 use sa_descr::rule_of;
-use sa_text::{Value, ValueList, stretched_at, value_weight};
+use sa_plain::{Items, PlainKind};
 use sa_view::View;
 
 /// The most that one call weighs.
@@ -28,26 +33,28 @@ pub fn forbids(decls: &Decls, out: &Option<View>) -> bool
     }
 }
 
-/// Why a result that follows this weight is refused, if it is.
-pub(crate) fn refusal_of(forbidden: bool, weight: u64, value: &Value) -> Option<Refusal>
-    requires { weight ≤ most_weight }
-    ensures { result ≡ refusal_of forbidden weight value.now }
+/// How wide the output's texts are; 0 where they have no fixed width, or there is no output.
+pub(crate) fn output_width(decls: &Decls, out: &Option<View>) -> u16
+    requires { is_output_of decls.now out.now ≡ true }
+    ensures width { result ≡ output_width decls.now out.now }
+    ensures most { result ≤ most_width }
 {
-    if forbidden && value.is_missing() {
-        Some(Refusal::NoMissing)
-    } else if weight + value_weight(value) > MOST_WEIGHT {
-        Some(Refusal::TooMuch)
-    } else {
-        None
+    let _declared = decls.arrays();
+    match out {
+        None => 0,
+        Some(out) => match kind_of(decls, out.array) {
+            Kind::Str | Kind::Plain(PlainKind::Int | PlainKind::Bool) => 0,
+            Kind::Plain(PlainKind::Bytes(width) | PlainKind::Fixed(width)) => width,
+        },
     }
 }
 
 /// Why results are refused that follow this weight: the first that is missing where that is forbidden, or
-/// with which the weight passes its limit. Where neither can be, no value is looked at.
-pub fn results_refusal(forbidden: bool, weight: u64, results: &ValueList) -> Option<(Refusal, u32)>
+/// with which the weight passes its limit. Where neither can be, no item is looked at.
+pub fn results_refusal(forbidden: bool, weight: u64, results: &Items) -> Option<(Refusal, u32)>
     requires light { weight ≤ most_weight }
-    requires few { length results.now ≤ 8192 }
-    ensures { result ≡ refused forbidden weight 0 results.now }
+    requires few { count_of results.now ≤ 8192 }
+    ensures { result ≡ refused forbidden weight 0 (items_of results.now) }
 {
     if !forbidden && weight + results.weight() <= MOST_WEIGHT {
         return None;
@@ -55,22 +62,34 @@ pub fn results_refusal(forbidden: bool, weight: u64, results: &ValueList) -> Opt
     first_refusal(forbidden, weight, results)
 }
 
-/// The first refusal among results: a missing value that is forbidden, or one with which the weight passes
-/// its limit.
-fn first_refusal(forbidden: bool, weight: u64, results: &ValueList) -> Option<(Refusal, u32)>
+/// The first refusal among results: a missing one that is forbidden, or one with which the weight passes its
+/// limit.
+fn first_refusal(forbidden: bool, weight: u64, results: &Items) -> Option<(Refusal, u32)>
     requires light { weight ≤ most_weight }
-    requires few { length results.now ≤ 8192 }
-    ensures { result ≡ refused forbidden weight 0 results.now }
+    requires few { count_of results.now ≤ 8192 }
+    ensures { result ≡ refused forbidden weight 0 (items_of results.now) }
 {
-    let count = results.len();
-    let values = results.as_slice();
     let mut weight = weight;
-    for k in 0..count {
-        let value = stretched_at(count, values, k);
-        if let Some(cause) = refusal_of(forbidden, weight, value) {
+    for k in 0..results.len() {
+        if let Some(cause) = refusal_at(forbidden, weight, results, k) {
             return Some((cause, k as u32));
         }
-        weight += value_weight(value);
+        weight += results.weight_at(k);
     }
     None
+}
+
+/// Why the result at a place, which follows this weight, is refused, if it is.
+fn refusal_at(forbidden: bool, weight: u64, results: &Items, k: usize) -> Option<Refusal>
+    requires light { weight ≤ most_weight }
+    requires there { k < count_of results.now }
+    ensures { result ≡ refusal_of forbidden weight (slice_index_or (items_of results.now) k MissingItem) }
+{
+    if forbidden && is_missing_at(results, k) {
+        Some(Refusal::NoMissing)
+    } else if weight + results.weight_at(k) > MOST_WEIGHT {
+        Some(Refusal::TooMuch)
+    } else {
+        None
+    }
 }

@@ -112,7 +112,7 @@ fn number_at(items: &Items, at: usize) -> i64
 
 /// Whether an item is missing.
 #[inline]
-fn is_missing_at(items: &Items, at: usize) -> bool
+pub(crate) fn is_missing_at(items: &Items, at: usize) -> bool
     ensures { result ≡ item_is_missing items.now at }
 {
     let Items::Values(values) = items else {

@@ -4,7 +4,8 @@ ghost use Rattle.sa_text.specs.Values.{IsTextValue};
 ghost use Rattle.sa_plain.specs.Items.{count_of, values_of};
 ghost use Rattle.sa_call.specs.Forms.{descr_of, entry};
 ghost use Rattle.sa_call.specs.Told.{AreOperands};
-ghost use Rattle.sa_call.specs.Valid.{are_values};
+ghost use Rattle.sa_call.specs.Decls.{Declared};
+ghost use Rattle.sa_call.specs.Kinds.{are_values};
 ghost use Rattle.sa_call.specs.declared.decls.Kind.TheVariants.{Str};
 ghost use Rattle.sa_call.specs.declared.form.Into.TheVariants.{Never};
 ghost use Rattle.sa_call.specs.declared.form.Sort.TheVariants.{Descr as DescrSort};
@@ -106,6 +107,15 @@ fn one_array(alloc: Global, na: NaRule) -> Result<Decls, Memory>
         len: 20,
     };
     Ok(Decls::new(descrs, vec![in alloc; array]?))
+}
+
+#[test]
+fn arrays_have_kinds(rt: HostRuntime) -> Result<(), Fail> {
+    let decls = one_array(rt.alloc(), NaRule::Absent)?;
+    assert!(rt; kind_of(&decls, 0) == Kind::Str);
+    assert!(rt; is_strings_array(&decls, 0));
+    assert!(rt; !Kind::Plain(PlainKind::Bytes(3)).is_strings());
+    Ok(())
 }
 
 /// A view of the first places of an array.
@@ -217,7 +227,7 @@ fn whole(alloc: Global, op: Op, read: &Operands) -> Result<Outcome, Memory>
     requires never { (entry op).into ≡ Never }
     requires moves { (entry op).group ≡ None }
     requires first { descr_of op ≡ Some 0 }
-    requires read { AreOperands (record { op = op; operands = []; out = None }) read.now }
+    requires read { (decls : Declared) → AreOperands decls (record { op = op; operands = []; out = None }) read.now }
 {
     let decls = one_array(alloc, NaRule::Absent)?;
     let call = Call {

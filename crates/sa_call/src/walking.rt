@@ -4,7 +4,7 @@ ghost use Rattle.sa_call.specs.Decides.{results_as};
 ghost use Rattle.sa_call.specs.Elements.{elements, gathered};
 ghost use Rattle.sa_call.specs.Forms.{entry};
 ghost use Rattle.sa_call.specs.Limits.{most_weight};
-ghost use Rattle.sa_call.specs.Walks.{GivesResults, halt_at};
+ghost use Rattle.sa_call.specs.Walks.{GivesResults, computed_items, halt_at};
 
 use crate::element::{Setting, Stop, result_at};
 use crate::reply::Refusal;
@@ -33,7 +33,7 @@ pub(crate) fn walk<'x>(
 ) -> Result<Items, Halt>
     requires computes { is_some (entry setting.now.op).group ≡ true }
     requires light { weight ≤ most_weight }
-    ensures { GivesResults result (results_as (entry setting.now.op).results (gathered setting.now.forbidden weight 0 (elements (record { miss = Some setting.now.miss; blank = setting.now.blank }) setting.now.op (map (λ c. items_of c.now) columns.now) count))) }
+    ensures { GivesResults result (results_as (computed_items (entry setting.now.op).results) (gathered setting.now.forbidden weight 0 (elements (record { miss = Some setting.now.miss; blank = setting.now.blank }) setting.now.op (map (λ c. items_of c.now) columns.now) count))) }
 {
     let mut results = ResultList::new(alloc, setting.op.form().results);
     let mut weight = weight;

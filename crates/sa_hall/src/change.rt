@@ -18,7 +18,7 @@ pub enum Change {
 }
 
 /// Carries out a change, which then is the writes that it tells. It takes no memory and cannot fail.
-pub(crate) fn carry_out(store: &mut Store, plains: &mut Vec<Plain>, change: Change)
+pub fn carry_out(store: &mut Store, plains: &mut Vec<Plain>, change: Change)
     requires { CanChange (contents_of store.old plains.old.items) store.old.room change }
     ensures { contents_of store.new plains.new.items ≡ after_writes (contents_of store.old plains.old.items) (writes_by change) }
 {

@@ -190,7 +190,7 @@ impl<D: Deed> Domain<D> {
 }
 
 /// Plain arrays of these kinds and lengths, before the first line.
-fn opening_plains(alloc: Global, plains: &[(PlainKind, u32)]) -> Result<Vec<Plain>, Memory>
+pub fn opening_plains(alloc: Global, plains: &[(PlainKind, u32)]) -> Result<Vec<Plain>, Memory>
     requires { ArePlains plains.now }
     ensures { IfOk result (λ made. made.items ≡ (opening_of (record { strings = []; plains = plains_said plains.now })).plains) }
 {

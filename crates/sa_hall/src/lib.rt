@@ -16,7 +16,8 @@ mod quiet;
 mod slots;
 mod work;
 
-pub use domain::Domain;
+pub use change::{Change, carry_out};
+pub use domain::{Domain, opening_plains};
 pub use hall::Hall;
 pub use held::Held;
 pub use lent::Lent;

@@ -1,35 +1,32 @@
--- What a run's stores are, one by one.
-use Rattle.std.proofs.Common.{◌≡◌, ℕ, ◌<◌, ltb, true, false, Bool, List, [], length, map, get_or, Some, None, refl, sym, ap, ◌∙◌, arith}
+-- What a run's rooms are, one by one.
+use Rattle.std.proofs.Common.{◌≡◌, ℕ, ◌<◌, ltb, true, false, Bool, List, [], length, map, get_or, Option, Some, None, refl, sym, ap, ◌∙◌, arith}
 use Rattle.std.specs.List.{range_with_len, slice_get}
 use Rattle.std.specs.Option.{option_map}
-use Rattle.std.proofs.lemmas.List.{get_or-map}
-use Rattle.std.proofs.lemmas.List.FromFn.{get_or-map-range_with_len, length-map-range_with_len}
+use Rattle.std.proofs.lemmas.List.FromFn.{length-map-range_with_len}
 use Rattle.std.proofs.Math.ListN.{length-map}
-use Rattle.std.proofs.lemmas.Simd.{map-map}
 use Rattle.std.proofs.lemmas.Bool.{ltb-true, ltb-false}
-use Rattle.std.proofs.lemmas.Option.{slice_get-map, slice_get-get_or, slice_get_past, slice_get_within, get_or_from_slice_get}
+use Rattle.std.proofs.lemmas.Option.{slice_get-map, slice_get-get_or, slice_get_past}
 use Rattle.std.specs.Prelude.{if◌then◌else◌}
-use Rattle.sa_alloc.specs.Layouts.{Layout, opening_layout}
-use Rattle.sa_alloc.specs.StoreValues.{StoreValue}
+use Rattle.sa_alloc.specs.Layouts.{Layout}
+use Rattle.sa_plain.specs.Plains.{PlainValue}
 use Rattle.sa_call.specs.declared.call.Call.{Call}
 use Rattle.sa_call.specs.Decls.{Declared}
-use Rattle.sa_loop.specs.Gathers.{layout_of, store_at}
+use Rattle.sa_hall.specs.Contents.{Contents, no_shape, opening_of}
+use Rattle.sa_loop.specs.declared.room.Room.{Room}
+use Rattle.sa_loop.specs.Gathers.{plain_in, store_at}
 use Rattle.sa_loop.specs.Plays.{play_world}
-use Rattle.sa_loop.specs.Runs.{shown, layout_in}
+use Rattle.sa_loop.specs.Runs.{arrays_in, arrays_of, holds_in, room_holds, shown}
+use Rattle.sa_loop.specs.States.{lengths_of}
+use Rattle.sa_loop.proofs.RunLemmas.{shape-is}
+use Rattle.sa_loop.proofs.SameLemmas.{held-at}
 
--- there are as many stores as descriptors
-pub as-many : {B : Type 0} (f : StoreValue → B) (g : ℕ → B) (stores : List StoreValue) (n : ℕ) → map f stores ≡ map g (range_with_len 0 n) → length stores ≡ n
-as-many f g stores n e = sym (length-map stores f) ∙ (ap length e ∙ length-map-range_with_len g 0 n)
+-- there are as many rooms as descriptors
+pub as-many : {B : Type 0} (f : Room → B) (g : ℕ → B) (rooms : List Room) (n : ℕ) → map f rooms ≡ map g (range_with_len 0 n) → length rooms ≡ n
+as-many f g rooms n e = sym (length-map rooms f) ∙ (ap length e ∙ length-map-range_with_len g 0 n)
 
--- a descriptor's layout shows its state in the play
-pub left-at : (decls : Declared) (stores : List StoreValue) (calls : List Call) (n d : ℕ) → map (λ (s : StoreValue). shown s.contents.layout) stores ≡ map (play_world decls calls) (range_with_len 0 n) → d < n → shown (layout_in stores d) ≡ play_world decls calls d
-left-at decls stores calls n d e below =
-    let many = as-many (λ (s : StoreValue). shown s.contents.layout) (play_world decls calls) stores n e in
-    let layouts : List Layout = map (λ (s : StoreValue). s.contents.layout) stores in
-    let within : d < length layouts = omega (arith, many, length-map stores (λ (s : StoreValue). s.contents.layout)) in
-    sym (get_or-map shown layouts d (opening_layout []) (shown (opening_layout [])) within)
-    ∙ (ap (λ xs. get_or xs d (shown (opening_layout []))) (map-map shown (λ (s : StoreValue). s.contents.layout) stores ∙ e)
-    ∙ get_or-map-range_with_len (play_world decls calls) 0 n d d (shown (opening_layout [])) below (omega arith))
+-- a descriptor's contents show its state in the play
+pub left-at : (decls : Declared) (rooms : List Room) (calls : List Call) (n d : ℕ) → map (λ (r : Room). shown (room_holds r)) rooms ≡ map (play_world decls calls) (range_with_len 0 n) → d < n → shown (holds_in rooms d) ≡ play_world decls calls d
+left-at decls rooms calls n d e below = held-at shown (play_world decls calls) rooms n d e below
 
 -- an element that is asked for by number
 get-by_test : {X : Type 0} (xs : List X) (k : ℕ) (d : X) → slice_get xs k ≡ (if ltb k (length xs) then Some (get_or xs k d) else None)
@@ -39,17 +36,61 @@ get-by_test {X} xs k d = go (ltb k (length xs)) refl
     go true e = slice_get-get_or xs k d (ltb-true k (length xs) e)
     go false e = slice_get_past xs k (ltb-false k (length xs) e)
 
--- the layout of a descriptor that is asked for by number
-pub at-number : (stores : List StoreValue) (n d : ℕ) → length stores ≡ n → option_map layout_of (slice_get stores d) ≡ store_at n (layout_in stores) d
-at-number stores n d e =
-    sym (slice_get-map layout_of stores d)
-    ∙ (get-by_test (map layout_of stores) d (opening_layout [])
-    ∙ ap (λ m. if ltb d m then Some (layout_in stores d) else None) (length-map stores layout_of ∙ e))
+-- what is held at a number that is asked for
+pub held-by : (rooms : List Room) (n d : ℕ) → length rooms ≡ n → option_map room_holds (slice_get rooms d) ≡ (if ltb d n then Some (holds_in rooms d) else None)
+held-by rooms n d e =
+    sym (slice_get-map room_holds rooms d)
+    ∙ (get-by_test (map room_holds rooms) d (opening_of no_shape)
+    ∙ ap (λ m. if ltb d m then Some (holds_in rooms d) else None) (length-map rooms room_holds ∙ e))
 
--- what is the same of each element by its number is so of one that is asked for
-pub same-at : {B : Type 0} (f : StoreValue → B) (g : ℕ → B) (stores : List StoreValue) (n d : ℕ) (s : StoreValue) → map f stores ≡ map g (range_with_len 0 n) → slice_get stores d ≡ Some s → f s ≡ g d
-same-at f g stores n d s e got =
-    let many = as-many f g stores n e in
-    let within = slice_get_within stores d s got in
-    let here : slice_get (map f stores) d ≡ Some (f s) = slice_get-map f stores d ∙ ap (option_map f) got in
-    sym (get_or_from_slice_get (map f stores) d (f s) (f s) here) ∙ (ap (λ xs. get_or xs d (f s)) e ∙ get_or-map-range_with_len g 0 n d d (f s) (omega arith) (omega arith))
+-- a room that is asked for, and one that there is not
+module _ (decls : Declared) (rooms : List Room) (d : ℕ) (shaped : map (λ (r : Room). arrays_in (room_holds r)) rooms ≡ map (arrays_of decls) (range_with_len 0 (length decls.descrs))) where
+  many : length rooms ≡ length decls.descrs
+  many = as-many (λ (r : Room). arrays_in (room_holds r)) (arrays_of decls) rooms (length decls.descrs) shaped
+
+  pub record IsFound (r : Room) : Type 0 where
+    pub below : ltb d (length decls.descrs) ≡ true
+    pub holds : holds_in rooms d ≡ room_holds r
+
+  pub found : (r : Room) → slice_get rooms d ≡ Some r → IsFound r
+  found r at = go (ltb d (length decls.descrs)) refl
+    where
+      go : (b : Bool) → ltb d (length decls.descrs) ≡ b → IsFound r
+      go true e =
+          let both : Some (room_holds r) ≡ Some (holds_in rooms d) = sym (ap (option_map room_holds) at) ∙ (held-by rooms (length decls.descrs) d many ∙ ap (λ (b : Bool). if b then Some (holds_in rooms d) else None) e) in
+          let same : room_holds r ≡ holds_in rooms d = cc in
+          record { below = e; holds = sym same }
+      go false e =
+          let none : Some (room_holds r) ≡ None = sym (ap (option_map room_holds) at) ∙ (held-by rooms (length decls.descrs) d many ∙ ap (λ (b : Bool). if b then Some (holds_in rooms d) else None) e) in
+          cc
+
+  pub not-found : slice_get rooms d ≡ None → ltb d (length decls.descrs) ≡ false
+  not-found at = go (ltb d (length decls.descrs)) refl
+    where
+      go : (b : Bool) → ltb d (length decls.descrs) ≡ b → ltb d (length decls.descrs) ≡ false
+      go true e =
+          let some : None ≡ Some (holds_in rooms d) = sym (ap (option_map room_holds) at) ∙ (held-by rooms (length decls.descrs) d many ∙ ap (λ (b : Bool). if b then Some (holds_in rooms d) else None) e) in
+          cc
+      go false e = e
+
+  pub store-found : (r : Room) → slice_get rooms d ≡ Some r → Some (room_holds r).layout ≡ store_at (length decls.descrs) (holds_in rooms) d
+  store-found r at =
+      let is = found r at in
+      sym (ap (λ (b : Bool). if b then Some (holds_in rooms d).layout else None) is.below ∙ ap (λ (c : Contents). Some c.layout) is.holds)
+
+  pub store-missing : slice_get rooms d ≡ None → None ≡ store_at (length decls.descrs) (holds_in rooms) d
+  store-missing at = sym (ap (λ (b : Bool). if b then Some (holds_in rooms d).layout else None) (not-found at))
+
+  pub plain-found : (r : Room) (k : ℕ) → slice_get rooms d ≡ Some r → slice_get (room_holds r).plains k ≡ plain_in (length decls.descrs) (holds_in rooms) d k
+  plain-found r k at =
+      let is = found r at in
+      sym (ap (λ (b : Bool). if b then slice_get (holds_in rooms d).plains k else None) is.below ∙ ap (λ (c : Contents). slice_get c.plains k) is.holds)
+
+  pub plain-missing : (k : ℕ) → slice_get rooms d ≡ None → None ≡ plain_in (length decls.descrs) (holds_in rooms) d k
+  plain-missing k at = sym (ap (λ (b : Bool). if b then slice_get (holds_in rooms d).plains k else None) (not-found at))
+
+  pub lengths-found : (r : Room) → slice_get rooms d ≡ Some r → (room_holds r).layout.lengths ≡ lengths_of decls d
+  lengths-found r at =
+      let is = found r at in
+      ap (λ (c : Contents). c.layout.lengths) (sym is.holds)
+      ∙ (shape-is decls d (holds_in rooms d) (held-at arrays_in (arrays_of decls) rooms (length decls.descrs) d shaped (ltb-true d (length decls.descrs) is.below))).lengths

@@ -3,6 +3,7 @@ use Rattle.std.proofs.Common.{◌≡◌, ◌≤◌, ◌<◌, ◌+◌, ℕ, zero,
 use Rattle.std.specs.List.{AllByRecursion}
 use Rattle.std.proofs.lemmas.Bool.{eq-eqb, ltb-false, ltb-true, ne_eqb}
 use Rattle.std.proofs.lemmas.List.{append-nil, get_or-map, get_or_past, get_or-set_other, get_or-set_same, length-map, length-set, map-append}
+use Rattle.sa_alloc.specs.Layouts.{opening_layout}
 use Rattle.sa_call.specs.declared.call.Call.{Call}
 use Rattle.sa_call.specs.declared.reply.Outcome.{Outcome}
 use Rattle.sa_call.specs.declared.reply.Reply.{Reply}
@@ -13,18 +14,19 @@ use Rattle.sa_journal.specs.Shapes.{Shape}
 use Rattle.sa_hall.specs.Contents.{Contents, opening_of}
 use Rattle.sa_hall.specs.Domains.{IsReadHere, stepped}
 use Rattle.sa_hall.specs.Folds.{IsLeft}
+use Rattle.sa_hall.proofs.WriteLemmas.{opening_plains}
 use Rattle.sa_hall.specs.Passes.{Passed, pass_with, with_mark}
 use Rattle.sa_loop.specs.declared.act.Act.{Act}
 use Rattle.sa_loop.specs.Acts.{act_said}
 use Rattle.sa_loop.specs.Histories.{bodies_of, call_at, calls_of, no_call, unmarked}
 use Rattle.sa_loop.specs.Locked.{IsOneLineMore, shape_in}
 use Rattle.sa_loop.specs.OneHistory.{AreEnded, IsAt, OneHistory, flag_at, line_number, line_pair}
-use Rattle.sa_loop.specs.Orders.{chain_at, line_call, world_in}
+use Rattle.sa_loop.specs.Orders.{chain_at, line_call}
 use Rattle.sa_loop.specs.Plays.{outcomes_from, world_left}
-use Rattle.sa_loop.specs.Runs.{shown}
-use Rattle.sa_loop.specs.States.{World, opening}
+use Rattle.sa_loop.specs.Runs.{IsContents, opening_holds, shown, world_of}
+use Rattle.sa_loop.specs.States.{World, lengths_of, opening, plains_of}
 use Rattle.sa_loop.proofs.OrderLemmas.{one-order}
-use Rattle.sa_loop.proofs.WorldLemmas.{opening-shown}
+use Rattle.sa_loop.proofs.WorldLemmas.{opening-contents, opening-shown}
 
 -- calls that are not marked
 
@@ -150,6 +152,10 @@ history-are decls tasks lines contents flags are t = go (nat_lt t (length tasks)
         let many = length-map tasks length in
         calls-of t lines ∙ (ap (map line_number) (none-of (length tasks) t lines are.within (omega arith)) ∙ ap (unmarked (flag_at (flags t)) 0) (sym (get_or_past (map length tasks) t 0 (omega arith))))
 
+-- a descriptor of its shape opens with what it holds before the first call
+opens-as : (decls : Declared) (d : ℕ) → opening_of (shape_in decls d) ≡ opening_holds decls d
+opens-as decls d = ap (λ ps. let c : Contents = record { layout = opening_layout (lengths_of decls d); plains = ps } in c) (opening_plains (plains_of decls d))
+
 pub one-history : OneHistory
 one-history decls tasks lines contents flags declared are =
     let calls = map line_call lines in
@@ -158,13 +164,13 @@ one-history decls tasks lines contents flags declared are =
     let start : ℕ → Contents = λ d. opening_of (shape_in decls d) in
     let opens : (d : ℕ) → d < length decls.descrs → IsLeft (λ a. stepped d (act_said a)) (λ a. IsReadHere d (act_said a)) (start d) (contents d) (chain_at d lines) =
     λ d below. subst (λ (s : Shape). IsLeft (λ a. stepped d (act_said a)) (λ a. IsReadHere d (act_said a)) (opening_of s) (contents d) (chain_at d lines)) (are.shapes d below) (are.left d below) in
-    let order = one-order decls start lines declared (λ d below. (opening-shown decls d).layout) alike (λ d below. (opens d below).agrees) in
-    let world : world_in start ≡ opening decls = λ i d. sym (opening-shown decls d).items i in
+    let order = one-order decls start lines declared (λ d below. subst (IsContents decls d) (sym (opens-as decls d)) (opening-contents decls d)) alike (λ d below. (opens d below).agrees) in
+    let world : world_of start ≡ opening decls = λ i d. (ap shown (opens-as decls d) ∙ sym (opening-shown decls d).items) i in
     record {
       history = record { calls = history-are decls tasks lines contents flags are };
       bodies = bodies-are tasks lines (all-by-tasks body (length tasks) lines are.within (λ t below. (are.done t below).bodies));
       played = record {
         answers = order.replies ∙ ap (λ (w : World). map (λ (o : Outcome). o.reply) (outcomes_from decls w calls)) world;
-        states = λ d below. ap (λ (c : Contents). shown c.layout) (opens d below).left ∙ (order.states d below ∙ ap (λ (w : World). world_left decls w calls d) world);
+        states = λ d below. ap shown (opens d below).left ∙ (order.states d below ∙ ap (λ (w : World). world_left decls w calls d) world);
       };
     }

@@ -87,17 +87,17 @@ pub record IsKnown (decls : Declared) (call : Call) (read : Operands) (weights :
   pub many : length weights ≡ weights_asked decls call read weights
   pub heavy : nat_lt most_weight (weight_read call (parts_told decls call read weights)) ≡ is_big read
 
-kind-of : (call : Call) (read : Operands) → AreOperands call read → is_read_by read (entry call.op).gives ≡ true
-kind-of call (operands.Items lists) are = ap is_same are.0
-kind-of call (operands.Stats stats) are = ap is_statistics are
-kind-of call (operands.Picture p) are = ap is_picture are.0
-kind-of call (operands.Big total) are = are.0
+kind-of : (decls : Declared) (call : Call) (read : Operands) → AreOperands decls call read → is_read_by read (entry call.op).gives ≡ true
+kind-of decls call (operands.Items lists) are = ap is_same are.0
+kind-of decls call (operands.Stats stats) are = ap is_statistics are
+kind-of decls call (operands.Picture p) are = ap is_picture are.0
+kind-of decls call (operands.Big total) are = are.0
 
-counts-of : (call : Call) (read : Operands) → AreOperands call read → counts_read read ≡ counts_asked call read
-counts-of call (operands.Items lists) are = are.1
-counts-of call (operands.Stats stats) are = refl
-counts-of call (operands.Picture p) are = refl
-counts-of call (operands.Big total) are = refl
+counts-of : (decls : Declared) (call : Call) (read : Operands) → AreOperands decls call read → counts_read read ≡ counts_asked call read
+counts-of decls call (operands.Items lists) are = are.1
+counts-of decls call (operands.Stats stats) are = refl
+counts-of decls call (operands.Picture p) are = refl
+counts-of decls call (operands.Big total) are = refl
 
 many-of : (decls : Declared) (call : Call) (read : Operands) (weights : List ℕ) → AreWeights decls call read weights → length weights ≡ weights_asked decls call read weights
 many-of decls call (operands.Items lists) weights are = refl
@@ -105,7 +105,7 @@ many-of decls call (operands.Stats stats) weights are = refl
 many-of decls call (operands.Picture p) weights are = refl
 many-of decls call (operands.Big total) weights are = are.0
 
-heavy-of : (decls : Declared) (call : Call) (read : Operands) (weights : List ℕ) → AreOperands call read → AreWeights decls call read weights → AreLight decls call read weights
+heavy-of : (decls : Declared) (call : Call) (read : Operands) (weights : List ℕ) → AreOperands decls call read → AreWeights decls call read weights → AreLight decls call read weights
     → nat_lt most_weight (weight_read call (parts_told decls call read weights)) ≡ is_big read
 heavy-of decls call (operands.Items lists) weights are weigh light = le-ltb most_weight (weight_read call (parts_told decls call (operands.Items lists) weights)) light
 heavy-of decls call (operands.Stats stats) weights are weigh light = le-ltb most_weight (weight_read call (parts_told decls call (operands.Stats stats) weights)) light
@@ -116,10 +116,10 @@ heavy-of decls call (operands.Big total) weights are weigh light =
     let whole = weigh.1 in
     lt-ltb 1048576 (weight_read call (parts_told decls call (operands.Big total) weights)) (omega arith)
 
-pub known : (decls : Declared) (call : Call) (read : Operands) (weights : List ℕ) → ∥ AreOperands call read ∥₁ → ∥ AreWeights decls call read weights ∥₁ → ∥ AreLight decls call read weights ∥₁ → IsKnown decls call read weights
+pub known : (decls : Declared) (call : Call) (read : Operands) (weights : List ℕ) → ∥ AreOperands decls call read ∥₁ → ∥ AreWeights decls call read weights ∥₁ → ∥ AreLight decls call read weights ∥₁ → IsKnown decls call read weights
 known decls call read weights are weigh light = record {
-  kind = ∥∥₁_elim are (Coded-set coded_bool _ _) (kind-of call read);
-  counts = ∥∥₁_elim are (Coded-set (coded_list coded_ℕ) _ _) (counts-of call read);
+  kind = ∥∥₁_elim are (Coded-set coded_bool _ _) (kind-of decls call read);
+  counts = ∥∥₁_elim are (Coded-set (coded_list coded_ℕ) _ _) (counts-of decls call read);
   many = ∥∥₁_elim weigh (Coded-set coded_ℕ _ _) (many-of decls call read weights);
   heavy = ∥∥₁_elim are (Coded-set coded_bool _ _) (λ a. ∥∥₁_elim weigh (Coded-set coded_bool _ _) (λ w. ∥∥₁_elim light (Coded-set coded_bool _ _) (λ l. heavy-of decls call read weights a w l)));
 }
@@ -252,31 +252,31 @@ weighed-at decls call (k ∷ ds) (w ∷ ws) d same once =
 
 -- each part that was told, read again, is what the call takes there
 
-reread-weighed : (g : Gives) (decls : Declared) (c : Contents) (call : Call) (d w : ℕ) → has_weight g ≡ true → IsDeclared decls → list_all (is_operand_of decls) call.operands ≡ true → HasShape decls d c.layout
-    → reread c (weighed_by g (places_told decls d call.operands) w) ≡ part_by g decls (shown c.layout) call true d
+reread-weighed : (g : Gives) (decls : Declared) (c : Contents) (call : Call) (d w : ℕ) → has_weight g ≡ true → IsDeclared decls → list_all (is_operand_of decls) call.operands ≡ true → HasShape decls d c
+    → reread c (weighed_by g (places_told decls d call.operands) w) ≡ part_by g decls (shown c) call true d
 reread-weighed gives.Items decls c call d w has declared views shape = ap (Weighed (places_told decls d call.operands)) (weight-there decls c d call.operands declared views shape)
 reread-weighed gives.Statistics decls c call d w has declared views shape = absurd (false≢true has)
 reread-weighed gives.Picture decls c call d w has declared views shape = refl
 
-reread-items : (g : Gives) (decls : Declared) (c : Contents) (call : Call) (d : ℕ) (xs : List (Place × Item)) → is_same g ≡ true → IsDeclared decls → list_all (is_operand_of decls) call.operands ≡ true → HasShape decls d c.layout
-    → map (λ (i : Place × Item). i.0) xs ≡ places_told decls d call.operands → reread c (Read xs) ≡ part_by g decls (shown c.layout) call false d
+reread-items : (g : Gives) (decls : Declared) (c : Contents) (call : Call) (d : ℕ) (xs : List (Place × Item)) → is_same g ≡ true → IsDeclared decls → list_all (is_operand_of decls) call.operands ≡ true → HasShape decls d c
+    → map (λ (i : Place × Item). i.0) xs ≡ places_told decls d call.operands → reread c (Read xs) ≡ part_by g decls (shown c) call false d
 reread-items gives.Items decls c call d xs has declared views shape places =
     ap (λ ys. Read ys) (sym (map-map (there c) (λ (i : Place × Item). i.0) xs) ∙ ap (map (there c)) places ∙ sym (taken-there decls c d call.operands declared views shape))
 reread-items gives.Statistics decls c call d xs has declared views shape places = absurd (false≢true has)
 reread-items gives.Picture decls c call d xs has declared views shape places = absurd (false≢true has)
 
-reread-counted : (g : Gives) (decls : Declared) (c : Contents) (call : Call) (d : ℕ) (stats : Stats) → is_statistics g ≡ true → reread c (Counted stats) ≡ part_by g decls (shown c.layout) call false d
+reread-counted : (g : Gives) (decls : Declared) (c : Contents) (call : Call) (d : ℕ) (stats : Stats) → is_statistics g ≡ true → reread c (Counted stats) ≡ part_by g decls (shown c) call false d
 reread-counted gives.Items decls c call d stats is = absurd (false≢true is)
 reread-counted gives.Statistics decls c call d stats is = refl
 reread-counted gives.Picture decls c call d stats is = absurd (false≢true is)
 
-reread-pictured : (g : Gives) (decls : Declared) (c : Contents) (call : Call) (d : ℕ) (entries : List (List ℕ)) (arena : List ℕ) → is_picture g ≡ true → reread c (Pictured entries arena) ≡ part_by g decls (shown c.layout) call false d
+reread-pictured : (g : Gives) (decls : Declared) (c : Contents) (call : Call) (d : ℕ) (entries : List (List ℕ)) (arena : List ℕ) → is_picture g ≡ true → reread c (Pictured entries arena) ≡ part_by g decls (shown c) call false d
 reread-pictured gives.Items decls c call d entries arena is = absurd (false≢true is)
 reread-pictured gives.Statistics decls c call d entries arena is = absurd (false≢true is)
 reread-pictured gives.Picture decls c call d entries arena is = refl
 
-reread-told : (decls : Declared) (c : Contents) (call : Call) (read : Operands) (weights : List ℕ) (d : ℕ) → IsDeclared decls → list_all (is_operand_of decls) call.operands ≡ true → IsKnown decls call read weights → d < length decls.descrs → is_named decls call d ≡ true → HasShape decls d c.layout
-    → reread c (part_at (parts_told decls call read weights) d) ≡ part decls (shown c.layout) call (is_big read) d
+reread-told : (decls : Declared) (c : Contents) (call : Call) (read : Operands) (weights : List ℕ) (d : ℕ) → IsDeclared decls → list_all (is_operand_of decls) call.operands ≡ true → IsKnown decls call read weights → d < length decls.descrs → is_named decls call d ≡ true → HasShape decls d c
+    → reread c (part_at (parts_told decls call read weights) d) ≡ part decls (shown c) call (is_big read) d
 reread-told decls c call (operands.Items lists) weights d declared views is below named shape =
     let told : ℕ → Part = λ k. Read (items_told decls k call.operands lists) in
     ap (reread c) (part-there told (homes_of decls call) d (once-among (is_named decls call) d (length decls.descrs) below named))
@@ -301,11 +301,11 @@ weight-taken decls w call big =
 
 -- Parts that were told of a call, and are the same when they are read again, are what the call takes.
 pub parts-agree : (decls : Declared) (cs : ℕ → Contents) (call : Call) (read : Operands) (weights : List ℕ) → IsDeclared decls → list_all (is_operand_of decls) call.operands ≡ true → IsKnown decls call read weights
-    → ((d : ℕ) → d < length decls.descrs → is_named decls call d ≡ true → HasShape decls d (cs d).layout)
+    → ((d : ℕ) → d < length decls.descrs → is_named decls call d ≡ true → HasShape decls d (cs d))
     → ((d : ℕ) → d < length decls.descrs → is_named decls call d ≡ true → reread (cs d) (part_at (parts_told decls call read weights) d) ≡ part_at (parts_told decls call read weights) d)
-    → parts_told decls call read weights ≡ parts_of decls (world_of (λ d. (cs d).layout)) call
+    → parts_told decls call read weights ≡ parts_of decls (world_of cs) call
 parts-agree decls cs call read weights declared views is shapes again =
-    let w = world_of (λ d. (cs d).layout) in
+    let w = world_of cs in
     let told = parts_told decls call read weights in
     let n = length decls.descrs in
     let firsts = firsts-told decls call read weights is.many in

@@ -1,6 +1,7 @@
 pub mod GatheredLemmas
 pub mod PartLemmas
 pub mod PieceLemmas
+pub mod PlanLemmas
 pub mod SlotLemmas
 pub mod StepLemmas
 pub mod TakeLemmas

@@ -1,13 +1,13 @@
 -- What a run begins with, part by part.
-use Rattle.std.proofs.Common.{◌≡◌, ◌≤◌, ◌<◌, ◌+◌, ◌-◌, ℕ, zero, suc, eqb, Bool, true, false, cond, nat_lt, List, [], ◌∷◌, ◌++◌, length, map, take, drop, replicate, get_or, Some, None, refl, sym, ap, ◌∙◌, subst, arith, add-one}
+use Rattle.std.proofs.Common.{◌≡◌, ◌≤◌, ◌<◌, ◌+◌, ◌-◌, ℕ, zero, suc, eqb, Bool, true, false, ◌&&◌, not, cond, nat_lt, List, [], ◌∷◌, ◌++◌, length, map, take, drop, replicate, get_or, Some, None, refl, sym, ap, ◌∙◌, subst, arith, add-one}
 use Rattle.std.specs.List.{AllByRecursion, drop-map, filter, slice_get, take-map}
 use Rattle.std.proofs.lemmas.Bool.{le-ltb, lt-ltb, ltb-false, ltb-true, ne_eqb}
 use Rattle.std.proofs.lemmas.List.{get_or_past, length-append}
 use Rattle.std.proofs.lemmas.List.FromFn.{get_or-map-range_with_len, length-map-range_with_len}
 use Rattle.sa_tie.specs.Seated.{TableId}
 use Rattle.sa_call.specs.declared.decls.ArrayDecl.{ArrayDecl}
-use Rattle.sa_call.specs.Decls.{Declared, IsDeclared}
-use Rattle.sa_call.specs.Told.{is_at}
+use Rattle.sa_call.specs.Decls.{Declared, IsDeclared, is_strings}
+use Rattle.sa_call.specs.Told.{is_among}
 use Rattle.sa_journal.specs.declared.party.Party.TheVariants.{Descr, Task}
 use Rattle.sa_journal.specs.Chains.{Roomy, Strand}
 use Rattle.sa_journal.specs.Journals.{IsNew, IsOf}
@@ -15,20 +15,21 @@ use Rattle.sa_journal.specs.Parties.{party_at}
 use Rattle.sa_journal.specs.Shapes.{Shape}
 use Rattle.sa_journal.specs.Table.{Shelves}
 use Rattle.sa_hall.specs.Contents.{no_shape, shape_of}
-use Rattle.sa_hall.specs.Domains.{HasEntries, IsPlaced, Kept, descr_in, is_descr}
+use Rattle.sa_hall.specs.Domains.{HasEntries, IsPlaced, Kept, descr_in, is_descr, plains_said}
 use Rattle.sa_hall.specs.Halls.{ArePlaced, HaveEntries}
 use Rattle.sa_hall.specs.Passes.{Passed, is_task, task_in}
 use Rattle.sa_loop.specs.Locked.{shape_in}
 use Rattle.sa_loop.specs.Openings.{AreNewFrom, AreOpeningPasses, IsOpeningPass, shapes_of}
-use Rattle.sa_loop.specs.States.{lengths_of}
+use Rattle.sa_loop.specs.States.{lengths_of, plain_shape, plains_of}
 
 -- the shape at a number, also where there is no such descriptor
 
-none-at : (d n : ℕ) (arrays : List ArrayDecl) → AllByRecursion (λ (a : ArrayDecl). a.home < n) arrays → n ≤ d → filter (is_at d) arrays ≡ []
-none-at d n [] all above = refl
-none-at d n (a ∷ arrays) all above =
+none-at : (b : Bool) (d n : ℕ) (arrays : List ArrayDecl) → AllByRecursion (λ (a : ArrayDecl). a.home < n) arrays → n ≤ d → filter (is_among b d) arrays ≡ []
+none-at b d n [] all above = refl
+none-at b d n (a ∷ arrays) all above =
     let other : eqb a.home d ≡ false = ne_eqb a.home d (λ same. let below = all.0 in omega arith) in
-    ap (λ (b : Bool). cond b (a ∷ filter (is_at d) arrays) (filter (is_at d) arrays)) other ∙ none-at d n arrays all.1 above
+    let not_one : is_among b d a ≡ false = ap (λ (c : Bool). c && cond b (is_strings a.kind) (not (is_strings a.kind))) other in
+    ap (λ (c : Bool). cond c (a ∷ filter (is_among b d) arrays) (filter (is_among b d) arrays)) not_one ∙ none-at b d n arrays all.1 above
 
 pub shape-at : (decls : Declared) (shapes : List Shape) → IsDeclared decls → shapes ≡ shapes_of decls → (d : ℕ) → get_or shapes d no_shape ≡ shape_in decls d
 shape-at decls shapes declared are d = ap (λ (ss : List Shape). get_or ss d no_shape) are ∙ go (nat_lt d n) refl
@@ -41,8 +42,9 @@ shape-at decls shapes declared are d = ap (λ (ss : List Shape). get_or ss d no_
     go false e =
         let above = ltb-false d (length decls.descrs) e in
         let many = length-map-range_with_len (shape_in decls) 0 (length decls.descrs) in
-        let none : lengths_of decls d ≡ [] = ap (map (λ (a : ArrayDecl). a.len)) (none-at d (length decls.descrs) decls.arrays declared.homes above) in
-        get_or_past (shapes_of decls) d no_shape (omega arith) ∙ ap (λ ns. let s : Shape = record { strings = ns; plains = [] } in s) (sym none)
+        let none : lengths_of decls d ≡ [] = ap (map (λ (a : ArrayDecl). a.len)) (none-at true d (length decls.descrs) decls.arrays declared.homes above) in
+        let no_plains : plains_said (plains_of decls d) ≡ [] = ap (λ (left : List ArrayDecl). plains_said (map plain_shape left)) (none-at false d (length decls.descrs) decls.arrays declared.homes above) in
+        get_or_past (shapes_of decls) d no_shape (omega arith) ∙ (λ i. let s : Shape = record { strings = sym none i; plains = sym no_plains i } in s)
 
 pub many-shapes : (decls : Declared) (shapes : List Shape) → shapes ≡ shapes_of decls → length shapes ≡ length decls.descrs
 many-shapes decls shapes are = ap length are ∙ length-map-range_with_len (shape_in decls) 0 (length decls.descrs)

@@ -1,15 +1,11 @@
 -- A list of lines whose chains agree is a play of their calls.
 use Rattle.std.proofs.Common.{◌≡◌, ◌≤◌, ◌<◌, ◌+◌, ℕ, eqb, Bool, true, false, ◌||◌, cond, nat_lt, List, [], ◌∷◌, length, map, Option, Some, None, refl, sym, ap, ◌∙◌, subst, arith}
 use Rattle.std.specs.Coded.{Coded-set, coded_bool}
-use Rattle.std.specs.List.{AllByRecursion, list_all, list_any, zip}
+use Rattle.std.specs.List.{AllByRecursion, list_all, list_any}
 use Rattle.std.proofs.Math.Logic.{∥∥₁_elim}
 use Rattle.std.proofs.lemmas.Bool.{eqb-true, ltb-false, ltb-true, or_left, or_right, false≢true}
-use Rattle.sa_base.specs.Items.{Item}
-use Rattle.sa_base.specs.Deeds.{Put, Write, writes_at}
-use Rattle.sa_alloc.specs.Layouts.{Layout}
-use Rattle.sa_view.specs.Views.{places_of}
+use Rattle.sa_base.specs.Deeds.{Write, writes_at}
 use Rattle.sa_view.specs.declared.view.View.{View}
-use Rattle.sa_plain.specs.Items.{items_of}
 use Rattle.sa_plain.specs.declared.items.Items.{Items}
 use Rattle.sa_call.specs.declared.call.Call.{Call}
 use Rattle.sa_call.specs.declared.reply.Outcome.{Outcome}
@@ -17,45 +13,29 @@ use Rattle.sa_call.specs.declared.reply.Reply.{Reply}
 use Rattle.sa_call.specs.Decides.{decide}
 use Rattle.sa_call.specs.Decls.{Declared, IsDeclared, home_of}
 use Rattle.sa_call.specs.Forms.{descr_of}
-use Rattle.sa_call.specs.Told.{homes_of, is_named, is_number, operand_is_at, output_is_at, parts_told, place_in}
+use Rattle.sa_call.specs.Told.{homes_of, is_named, is_number, operand_is_at, output_is_at, parts_told}
 use Rattle.sa_call.specs.Valid.{is_operand_of, is_output_of}
 use Rattle.sa_journal.specs.declared.party.Party.TheVariants.{Descr}
 use Rattle.sa_journal.specs.Chains.{Keyed}
 use Rattle.sa_journal.specs.Parties.{among, names}
 use Rattle.sa_journal.specs.Said.{Said}
-use Rattle.sa_hall.specs.Contents.{Contents, after_writes, put_item}
+use Rattle.sa_hall.specs.Contents.{Contents, after_writes}
 use Rattle.sa_hall.specs.Domains.{IsReadHere, stepped}
 use Rattle.sa_hall.specs.Folds.{Agrees, left_by}
 use Rattle.sa_loop.specs.declared.act.Act.{Act}
 use Rattle.sa_loop.specs.Acts.{act_said, said_by}
-use Rattle.sa_loop.specs.Orders.{AgreesAt, IsPlayed, OneOrder, chain_at, contents_left, line_call, line_reply, world_in}
+use Rattle.sa_loop.specs.Orders.{AgreesAt, IsPlayed, OneOrder, chain_at, contents_left, line_call, line_reply}
 use Rattle.sa_loop.specs.Plays.{outcomes_from, world_left}
-use Rattle.sa_loop.specs.Runs.{IsLayout, shown}
+use Rattle.sa_loop.specs.Runs.{IsContents, shown, world_of}
 use Rattle.sa_loop.specs.States.{World}
 use Rattle.sa_loop.specs.Takes.{outcome_in}
-use Rattle.sa_loop.specs.Writes.{layout_written, puts_told, world_after, writes_told, written}
+use Rattle.sa_loop.specs.Writes.{puts_told, world_after, writes_told, written}
 use Rattle.sa_loop.proofs.KnownLemmas.{IsKnown, home-any, known, parts-agree}
 use Rattle.sa_loop.proofs.PerformLemmas.{home-declared}
 use Rattle.sa_loop.proofs.StepLemmas.{IsStep, IsWithin, steps}
 use Rattle.sa_loop.proofs.WorldLemmas.{view-known, writes-within}
 
--- the writes of a call change a layout as they change what a descriptor holds
-
-puts-layout : (decls : Declared) (v : View) (ps : List ℕ) (items : List Item) (c : Contents)
-    → (after_writes c (map (λ p. Put p.0 p.1) (zip (map (place_in decls v) ps) items))).layout ≡ layout_written c.layout (map (λ p. Put p.0 p.1) (zip (map (place_in decls v) ps) items))
-puts-layout decls v [] items c = refl
-puts-layout decls v (p ∷ ps) [] c = refl
-puts-layout decls v (p ∷ ps) (i ∷ items) c = puts-layout decls v ps items (put_item c (place_in decls v p) i)
-
-pub told-layout : (decls : Declared) (out : Option View) (results : Option Items) (d : ℕ) (c : Contents)
-    → (after_writes c (writes_at (writes_told decls out results) d)).layout ≡ layout_written c.layout (writes_at (writes_told decls out results) d)
-told-layout decls None results d c = refl
-told-layout decls (Some v) None d c = refl
-told-layout decls (Some v) (Some results) d c = go (eqb (home_of decls v.array) d)
-  where
-    go : (b : Bool) → (after_writes c (cond b (puts_told decls v results) [])).layout ≡ layout_written c.layout (cond b (puts_told decls v results) [])
-    go true = puts-layout decls v (places_of v) (items_of results) c
-    go false = refl
+-- a call writes nothing but to its output's home
 
 pub none-written : (decls : Declared) (out : Option View) (results : Option Items) (d : ℕ) → output_is_at decls d out ≡ false → writes_at (writes_told decls out results) d ≡ []
 none-written decls None results d apart = refl
@@ -116,22 +96,22 @@ unnamed-unwritten decls a d c is declared apart = ap (λ (s : Said). stepped d s
 abbrev ws_of : Declared → Act → ℕ → List Write
 ws_of decls a d = writes_at (writes_told decls a.body.now.out a.outcome.results) d
 
-after-layout : (decls : Declared) (a : Act) (d : ℕ) (c : Contents) → IsAct decls a → (stepped d (act_said a) c).layout ≡ layout_written c.layout (ws_of decls a d)
-after-layout decls a d c is = ap (λ (s : Said). (stepped d s c).layout) is.said ∙ told-layout decls a.body.now.out a.outcome.results d c
+step-is : (decls : Declared) (a : Act) (d : ℕ) (c : Contents) → IsAct decls a → IsContents decls d c → IsStep decls d c (ws_of decls a d)
+step-is decls a d c is held = steps decls d c (ws_of decls a d) held (subst (λ (ns : List ℕ). AllByRecursion (IsWithin ns) (ws_of decls a d)) (sym held.lengths) (writes-within decls a.body.now.out a.outcome.results d is.into))
 
-step-is : (decls : Declared) (a : Act) (d : ℕ) (l : Layout) → IsAct decls a → IsLayout decls d l → IsStep decls d l (ws_of decls a d)
-step-is decls a d l is layout = steps decls d l (ws_of decls a d) layout (subst (λ (ns : List ℕ). AllByRecursion (IsWithin ns) (ws_of decls a d)) (sym layout.lengths) (writes-within decls a.body.now.out a.outcome.results d is.into))
+after-said : (decls : Declared) (a : Act) (d : ℕ) (c : Contents) → IsAct decls a → stepped d (act_said a) c ≡ after_writes c (ws_of decls a d)
+after-said decls a d c is = ap (λ (s : Said). stepped d s c) is.said
 
-state-written : (decls : Declared) (a : Act) (d : ℕ) (c : Contents) → IsAct decls a → IsDeclared decls → (d < length decls.descrs → IsLayout decls d c.layout)
-    → shown (stepped d (act_said a) c).layout ≡ written (shown c.layout) (ws_of decls a d)
-state-written decls a d c is declared layout = go (nat_lt d (length decls.descrs)) refl (output_is_at decls d a.body.now.out) refl
+state-written : (decls : Declared) (a : Act) (d : ℕ) (c : Contents) → IsAct decls a → IsDeclared decls → (d < length decls.descrs → IsContents decls d c)
+    → shown (stepped d (act_said a) c) ≡ written (shown c) (ws_of decls a d)
+state-written decls a d c is declared held = go (nat_lt d (length decls.descrs)) refl (output_is_at decls d a.body.now.out) refl
   where
-    go : (b : Bool) → nat_lt d (length decls.descrs) ≡ b → (o : Bool) → output_is_at decls d a.body.now.out ≡ o → shown (stepped d (act_said a) c).layout ≡ written (shown c.layout) (ws_of decls a d)
-    go true below o at = ap shown (after-layout decls a d c is) ∙ (step-is decls a d c.layout is (layout (ltb-true d (length decls.descrs) below))).shows
+    go : (b : Bool) → nat_lt d (length decls.descrs) ≡ b → (o : Bool) → output_is_at decls d a.body.now.out ≡ o → shown (stepped d (act_said a) c) ≡ written (shown c) (ws_of decls a d)
+    go true below o at = ap shown (after-said decls a d c is) ∙ (step-is decls a d c is (held (ltb-true d (length decls.descrs) below))).shows
     go false above true at = let under = output-below decls a.body.now.out d declared is.into at in let over = ltb-false d (length decls.descrs) above in absurd (omega arith)
     go false above false at =
         let none = none-written decls a.body.now.out a.outcome.results d at in
-        ap shown (after-layout decls a d c is) ∙ ap (λ ws. shown (layout_written c.layout ws)) none ∙ sym (ap (written (shown c.layout)) none)
+        ap shown (after-said decls a d c is) ∙ ap (λ ws. shown (after_writes c ws)) none ∙ sym (ap (written (shown c)) none)
 
 -- the chain of a descriptor, with one line in front
 
@@ -165,33 +145,33 @@ first-read l ls d c named agrees = first (subst (λ (b : Bool). All (cond b (l �
     first all = all.0
 
 -- an act whose parts are the same when they are read again is its call's effect
-pub outcome-there : (decls : Declared) (cs : ℕ → Contents) (a : Act) → IsAct decls a → IsDeclared decls → ((d : ℕ) → d < length decls.descrs → IsLayout decls d (cs d).layout)
-    → ((d : ℕ) → d < length decls.descrs → is_named decls a.body.now d ≡ true → IsReadHere d (act_said a) (cs d)) → a.outcome ≡ outcome_in decls (world_in cs) a.body.now
-outcome-there decls cs a is declared layouts read =
+pub outcome-there : (decls : Declared) (cs : ℕ → Contents) (a : Act) → IsAct decls a → IsDeclared decls → ((d : ℕ) → d < length decls.descrs → IsContents decls d (cs d))
+    → ((d : ℕ) → d < length decls.descrs → is_named decls a.body.now d ≡ true → IsReadHere d (act_said a) (cs d)) → a.outcome ≡ outcome_in decls (world_of cs) a.body.now
+outcome-there decls cs a is declared held read =
     is.decided
     ∙ ap (decide decls a.body.now)
     (parts-agree decls cs a.body.now a.read a.weights declared is.views is.known
-    (λ d below named. record { lengths = (layouts d below).lengths; states = (layouts d below).states })
+    (λ d below named. record { lengths = (held d below).lengths; states = (held d below).states; plains = (held d below).plains })
     (λ d below named. subst (λ (s : Said). IsReadHere d s (cs d)) is.said (read d below named)))
 
 pub one-order : OneOrder
-one-order decls cs [] declared layouts alike agrees = record { replies = refl; states = λ d below. refl }
-one-order decls cs (l ∷ ls) declared layouts alike agrees =
+one-order decls cs [] declared held alike agrees = record { replies = refl; states = λ d below. refl }
+one-order decls cs (l ∷ ls) declared held alike agrees =
     let a = l.1.deed in
     let call = a.body.now in
     let is = act-is decls a alike.0 in
-    let outcome = outcome-there decls cs a is declared layouts (λ d below named. first-read l ls d (cs d) (named-there decls a d is below named) (agrees d below)) in
-    let world : world_in (next_contents a cs) ≡ world_after decls (world_in cs) call =
-    λ i d. (state-written decls a d (cs d) is declared (layouts d) ∙ ap (λ (o : Outcome). written (shown (cs d).layout) (writes_at (writes_told decls call.out o.results) d)) outcome) i in
-    let after : (d : ℕ) → d < length decls.descrs → IsLayout decls d (next_contents a cs d).layout =
-    λ d below. subst (IsLayout decls d) (sym (after-layout decls a d (cs d) is)) (step-is decls a d (cs d).layout is (layouts d below)).layout in
+    let outcome = outcome-there decls cs a is declared held (λ d below named. first-read l ls d (cs d) (named-there decls a d is below named) (agrees d below)) in
+    let world : world_of (next_contents a cs) ≡ world_after decls (world_of cs) call =
+    λ i d. (state-written decls a d (cs d) is declared (held d) ∙ ap (λ (o : Outcome). written (shown (cs d)) (writes_at (writes_told decls call.out o.results) d)) outcome) i in
+    let after : (d : ℕ) → d < length decls.descrs → IsContents decls d (next_contents a cs d) =
+    λ d below. subst (IsContents decls d) (sym (after-said decls a d (cs d) is)) (step-is decls a d (cs d) is (held d below)).contents in
     let rest = one-order decls (next_contents a cs) ls declared after alike.1 (λ d below. chain-agrees decls l ls d (cs d) is declared (agrees d below)) in
     let reply : Outcome → Reply = λ o. o.reply in
     record {
       replies =
           ap (λ r. reply r ∷ map line_reply ls) outcome
-          ∙ ap (λ rs. reply (outcome_in decls (world_in cs) call) ∷ rs) (rest.replies ∙ ap (λ (w : World). map reply (outcomes_from decls w (map line_call ls))) world);
+          ∙ ap (λ rs. reply (outcome_in decls (world_of cs) call) ∷ rs) (rest.replies ∙ ap (λ (w : World). map reply (outcomes_from decls w (map line_call ls))) world);
       states = λ d below.
-          ap (λ (c : Contents). shown c.layout) (chain-left decls l ls d (cs d) is declared)
+          ap shown (chain-left decls l ls d (cs d) is declared)
           ∙ (rest.states d below ∙ ap (λ (w : World). world_left decls w (map line_call ls) d) world);
     }

@@ -17,15 +17,14 @@ use Rattle.sa_call.specs.declared.call.Call.{Call}
 use Rattle.sa_call.specs.declared.reply.Refusal.{Refusal}
 use Rattle.sa_call.specs.declared.reply.Outcome.{Outcome}
 use Rattle.sa_call.specs.Calls.{counts_of, elements_in, is_length_of}
-use Rattle.sa_call.specs.Decides.{decide, decided, forbids, items_as, outcome_of, results_as, told_by, setting_of}
+use Rattle.sa_call.specs.Decides.{decide, decided, forbids, given_elements, kind_given, outcome_of, results_as, told_by, setting_of}
+use Rattle.sa_call.specs.Kinds.{ListKind, OfBytes, OfFlags, OfInts, OfUnits, OfValues, bytes_in, items_as, units_in}
 use Rattle.sa_call.specs.Decls.{Declared}
 use Rattle.sa_call.specs.Elements.{and_admitted, and_later, elements, gathered, with_front}
-use Rattle.sa_call.specs.declared.form.Results.{Results}
-use Rattle.sa_call.specs.declared.form.Results.TheVariants as results
-use Rattle.sa_call.specs.Forms.{descr_of, entry, flag_in, number_in}
+use Rattle.sa_call.specs.Forms.{descr_of, flag_in, number_in}
 use Rattle.sa_call.specs.Limits.{most_weight}
 use Rattle.sa_call.specs.Parts.{Parts, columns_of, items_read, weight_read}
-use Rattle.sa_call.specs.Valid.{IsCall, are_values, results_fit}
+use Rattle.sa_call.specs.Valid.{IsCall}
 
 -- results are as many as the elements
 front-many : (item : Item) (r : Result (List Item) (Refusal × ℕ)) (items : List Item) (n : ℕ) → ((ys : List Item) → r ≡ Ok ys → length ys ≡ n) → with_front item r ≡ Ok items → length items ≡ n + 1
@@ -43,13 +42,14 @@ gathered-many forbidden weight at (e ∷ es) items is = go (and_admitted forbidd
 abbrev HasResults : Outcome → Items → Type 0
 HasResults o items = o.results ≡ Some items
 
-as-many : (kind : Results) (ys : List Item) → count_of (items_as kind ys) ≡ length ys
-as-many results.Moved ys = length-map ys value_of
-as-many results.Texts ys = length-map ys value_of
-as-many results.Numbers ys = length-map ys number_in
-as-many results.Flags ys = length-map ys flag_in
+as-many : (kind : ListKind) (ys : List Item) → count_of (items_as kind ys) ≡ length ys
+as-many OfValues ys = length-map ys value_of
+as-many OfInts ys = length-map ys number_in
+as-many OfFlags ys = length-map ys flag_in
+as-many OfBytes ys = length-map ys bytes_in
+as-many OfUnits ys = length-map ys units_in
 
-given-many : (v : View) (kind : Results) (r : Result (List Item) (Refusal × ℕ)) (items : Items) (n : ℕ) → ((ys : List Item) → r ≡ Ok ys → length ys ≡ n) → HasResults (outcome_of (Some v) (results_as kind r)) items → count_of items ≡ n
+given-many : (v : View) (kind : ListKind) (r : Result (List Item) (Refusal × ℕ)) (items : Items) (n : ℕ) → ((ys : List Item) → r ≡ Ok ys → length ys ≡ n) → HasResults (outcome_of (Some v) (results_as kind r)) items → count_of items ≡ n
 given-many v kind (Ok ys) items n many is = let same : items ≡ items_as kind ys = cc in ap count_of same ∙ (as-many kind ys ∙ many ys refl)
 given-many v kind (Err e) items n many is = cc
 
@@ -71,43 +71,18 @@ results-many decls call parts v items valid out is = heavy (nat_lt most_weight (
     light : (o : Option ℕ) → HasResults (decided decls call o parts) items → count_of items ≡ v.count
     light (Some d) told = absurd (told-none (part_at parts d) items told)
     light None told =
-        let es = elements (setting_of decls call) call.op (columns_of decls (λ d. items_read (part_at parts d)) call.operands) (elements_in call) in
-        let many : length es ≡ elements_in call = length-map-range_with_len _ 0 (elements_in call) in
+        let columns = columns_of decls (λ d. items_read (part_at parts d)) call.operands in
+        let es = given_elements decls call columns in
+        let all = elements (setting_of decls call) call.op columns (elements_in call) in
+        let many : length es ≡ elements_in call = length-map all _ ∙ length-map-range_with_len _ 0 (elements_in call) in
         let fits : is_length_of (Some v) (broadcast (counts_of call)) ≡ true = ap (λ o. is_length_of o (broadcast (counts_of call))) (sym out) ∙ valid.lengths in
         let size = elements-of_output v (broadcast (counts_of call)) fits in
         let r = gathered (forbids decls call.out) (weight_read call parts) 0 es in
-        let kind = (entry call.op).results in
+        let kind = kind_given decls call in
         let told_out : HasResults (outcome_of (Some v) (results_as kind r)) items = ap (λ o. (outcome_of o (results_as kind r)).results) (sym out) ∙ told in
         given-many v kind r items v.count (λ ys e. gathered-many (forbids decls call.out) (weight_read call parts) 0 es ys e ∙ (many ∙ size)) told_out
 
     heavy : (b : Bool) → nat_lt most_weight (weight_read call parts) ≡ b → count_of items ≡ v.count
-    heavy true e = let none : Some items ≡ None = sym is ∙ rw e refl in cc
-    heavy false e = light (descr_of call.op) (sym (rw e refl) ∙ is)
-
--- and they are values
-as-values : (v : View) (kind : Results) (ys : List Item) → results_fit kind (Some v) ≡ true → are_values (items_as kind ys) ≡ true
-as-values v results.Moved ys fit = refl
-as-values v results.Texts ys fit = refl
-as-values v results.Numbers ys fit = absurd (false≢true fit)
-as-values v results.Flags ys fit = absurd (false≢true fit)
-
-given-values : (v : View) (kind : Results) (r : Result (List Item) (Refusal × ℕ)) (items : Items) → results_fit kind (Some v) ≡ true → HasResults (outcome_of (Some v) (results_as kind r)) items → are_values items ≡ true
-given-values v kind (Ok ys) items fit is = let same : items ≡ items_as kind ys = cc in ap are_values same ∙ as-values v kind ys fit
-given-values v kind (Err e) items fit is = cc
-
-pub results-values : (decls : Declared) (call : Call) (parts : Parts) (v : View) (items : Items) → IsCall decls call → call.out ≡ Some v → (decide decls call parts).results ≡ Some items → are_values items ≡ true
-results-values decls call parts v items valid out is = heavy (nat_lt most_weight (weight_read call parts)) refl
-  where
-    light : (o : Option ℕ) → HasResults (decided decls call o parts) items → are_values items ≡ true
-    light (Some d) told = absurd (told-none (part_at parts d) items told)
-    light None told =
-        let r = gathered (forbids decls call.out) (weight_read call parts) 0 (elements (setting_of decls call) call.op (columns_of decls (λ d. items_read (part_at parts d)) call.operands) (elements_in call)) in
-        let kind = (entry call.op).results in
-        let fit : results_fit kind (Some v) ≡ true = ap (results_fit kind) (sym out) ∙ valid.results in
-        let told_out : HasResults (outcome_of (Some v) (results_as kind r)) items = ap (λ o. (outcome_of o (results_as kind r)).results) (sym out) ∙ told in
-        given-values v kind r items fit told_out
-
-    heavy : (b : Bool) → nat_lt most_weight (weight_read call parts) ≡ b → are_values items ≡ true
     heavy true e = let none : Some items ≡ None = sym is ∙ rw e refl in cc
     heavy false e = light (descr_of call.op) (sym (rw e refl) ∙ is)
 

@@ -1,4 +1,4 @@
--- Worlds that agree on the declared descriptors have the same calls, and lists of stores that agree are the same.
+-- Worlds that agree on the declared descriptors have the same calls, and lists of rooms that agree are the same.
 use Rattle.std.proofs.Common.{◌≡◌, ◌+◌, ◌<◌, ℕ, zero, suc, Bool, inl, inr, nat_lt, List, [], ◌∷◌, length, map, get_or, refl, sym, ap, ◌∙◌, subst, arith}
 use Rattle.std.specs.List.{AllByRecursion, range_with_len, filter, sum_by}
 use Rattle.std.proofs.lemmas.Bool.{cases_Bool}
@@ -7,15 +7,15 @@ use Rattle.std.proofs.lemmas.List.FromFn.{get_or-map-range_with_len, length-map-
 use Rattle.std.proofs.lemmas.List.Sums.{sum_by-cons}
 use Rattle.std.proofs.lemmas.Simd.{map-map}
 use Rattle.std.proofs.Math.ListN.{length-map}
-use Rattle.sa_alloc.specs.Layouts.{Layout, opening_layout}
-use Rattle.sa_alloc.specs.StoreValues.{StoreValue}
 use Rattle.sa_call.specs.declared.call.Call.{Call}
 use Rattle.sa_call.specs.Decides.{decide}
 use Rattle.sa_call.specs.Decls.{Declared}
 use Rattle.sa_call.specs.Limits.{most_weight}
 use Rattle.sa_call.specs.Parts.{literal_weight}
 use Rattle.sa_call.specs.Told.{homes_of, is_named}
-use Rattle.sa_loop.specs.Runs.{layout_in}
+use Rattle.sa_hall.specs.Contents.{Contents, no_shape, opening_of}
+use Rattle.sa_loop.specs.declared.room.Room.{Room}
+use Rattle.sa_loop.specs.Runs.{holds_in, room_holds}
 use Rattle.sa_loop.specs.States.{World}
 use Rattle.sa_loop.specs.Takes.{is_heavy, outcome_in, part, weight}
 
@@ -54,29 +54,26 @@ outcome-same decls w v call same =
     (λ d below. ap (λ b. (d, part decls (w d) call b d)) heavy ∙ ap (λ s. (d, part decls s call (is_heavy decls v call) d)) (all d below)) in
     ap (decide decls call) parts
 
-abbrev layout_of : StoreValue → Layout
-layout_of s = s.contents.layout
-
--- what a list says of each store's layout, said of the layout of a number
-pub layout-at : {B : Type 0} (F : Layout → B) (g : ℕ → B) (stores : List StoreValue) (n d : ℕ) → map (λ (s : StoreValue). F s.contents.layout) stores ≡ map g (range_with_len 0 n) → d < n → F (layout_in stores d) ≡ g d
-layout-at F g stores n d e below =
-    let many : length stores ≡ n = sym (length-map stores (λ (s : StoreValue). F s.contents.layout)) ∙ (ap length e ∙ length-map-range_with_len g 0 n) in
-    let layouts : List Layout = map layout_of stores in
-    let within : d < length layouts = omega (arith, many, length-map stores layout_of) in
-    sym (get_or-map F layouts d (opening_layout []) (F (opening_layout [])) within)
-    ∙ (ap (λ xs. get_or xs d (F (opening_layout []))) (map-map F layout_of stores ∙ e)
-    ∙ get_or-map-range_with_len g 0 n d d (F (opening_layout [])) below (omega arith))
+-- what a list says of what each room holds, said of what is held at a number
+pub held-at : {B : Type 0} (F : Contents → B) (g : ℕ → B) (rooms : List Room) (n d : ℕ) → map (λ (r : Room). F (room_holds r)) rooms ≡ map g (range_with_len 0 n) → d < n → F (holds_in rooms d) ≡ g d
+held-at F g rooms n d e below =
+    let many : length rooms ≡ n = sym (length-map rooms (λ (r : Room). F (room_holds r))) ∙ (ap length e ∙ length-map-range_with_len g 0 n) in
+    let all : List Contents = map room_holds rooms in
+    let within : d < length all = omega (arith, many, length-map rooms room_holds) in
+    sym (get_or-map F all d (opening_of no_shape) (F (opening_of no_shape)) within)
+    ∙ (ap (λ xs. get_or xs d (F (opening_of no_shape))) (map-map F room_holds rooms ∙ e)
+    ∙ get_or-map-range_with_len g 0 n d d (F (opening_of no_shape)) below (omega arith))
 
 -- and the other way round
-pub layouts-from : {B : Type 0} (F : Layout → B) (g : ℕ → B) (stores : List StoreValue) (n : ℕ) → length stores ≡ n → ((d : ℕ) → d < n → F (layout_in stores d) ≡ g d) → map (λ (s : StoreValue). F s.contents.layout) stores ≡ map g (range_with_len 0 n)
-layouts-from F g stores n many each =
-    let layouts : List Layout = map layout_of stores in
-    let long : length layouts ≡ n = length-map stores layout_of ∙ many in
-    let none = F (opening_layout []) in
-    let left = length-map layouts F in
+pub rooms-from : {B : Type 0} (F : Contents → B) (g : ℕ → B) (rooms : List Room) (n : ℕ) → length rooms ≡ n → ((d : ℕ) → d < n → F (holds_in rooms d) ≡ g d) → map (λ (r : Room). F (room_holds r)) rooms ≡ map g (range_with_len 0 n)
+rooms-from F g rooms n many each =
+    let all : List Contents = map room_holds rooms in
+    let long : length all ≡ n = length-map rooms room_holds ∙ many in
+    let none = F (opening_of no_shape) in
+    let left = length-map all F in
     let right = length-map-range_with_len g 0 n in
-    sym (map-map F layout_of stores)
-    ∙ ext_get_or none (map F layouts) (map g (range_with_len 0 n)) (omega arith)
+    sym (map-map F room_holds rooms)
+    ∙ ext_get_or none (map F all) (map g (range_with_len 0 n)) (omega arith)
     (λ d below.
-    let within : d < length layouts = omega arith in
-    get_or-map F layouts d (opening_layout []) none within ∙ (each d (omega arith) ∙ sym (get_or-map-range_with_len g 0 n d d none (omega arith) (omega arith))))
+    let within : d < length all = omega arith in
+    get_or-map F all d (opening_of no_shape) none within ∙ (each d (omega arith) ∙ sym (get_or-map-range_with_len g 0 n d d none (omega arith) (omega arith))))

@@ -1,15 +1,22 @@
 -- Arrays among those of their home.
-use Rattle.std.proofs.Common.{◌≡◌, ◌≢◌, inl, inr, ◌≤◌, ◌<◌, ℕ, zero, suc, Bool, true, false, cond, ltb, List, [], ◌∷◌, length, map, take, sum, get_or, refl, sym, ap, ◌∙◌, subst, arith}
-use Rattle.std.specs.List.{filter, count_by}
-use Rattle.std.proofs.lemmas.Bool.{cases_Bool, ltb-true, ltb-false, eq-eqb}
+use Rattle.std.proofs.Common.{◌≡◌, ◌≢◌, ◌≤◌, ◌<◌, ◌+◌, not, ℕ, zero, suc, eqb, Bool, true, false, cond, ltb, List, [], ◌∷◌, length, map, take, sum, get_or, refl, sym, ap, ◌∙◌, subst, arith}
+use Rattle.std.specs.List.{AllByRecursion, filter, count_by}
+use Rattle.std.proofs.lemmas.Bool.{and_from, and_parts, eq-eqb, ltb-false, ltb-true}
 use Rattle.std.proofs.lemmas.List.{length-map}
 use Rattle.std.proofs.lemmas.List.Sums.{sum_by-cons, length-filter, count_by-le-length}
 use Rattle.std.proofs.Math.Seq.{take_all}
 use Rattle.sa_alloc.specs.Consistency.{IsSmall}
+use Rattle.std.proofs.lemmas.List.Elements.{All-from_recursion}
+use Rattle.sa_plain.specs.Plains.{HasWidth, most_cells}
+use Rattle.sa_plain.specs.declared.kind.PlainKind.{PlainKind}
+use Rattle.sa_plain.specs.declared.kind.PlainKind.TheVariants as plain
 use Rattle.sa_call.specs.declared.decls.ArrayDecl.{ArrayDecl}
-use Rattle.sa_call.specs.Decls.{Declared, IsDeclared, array_at, length_at, home_of, entries_at, entries_of}
-use Rattle.sa_call.specs.Told.{is_at, index_at_home}
-use Rattle.sa_loop.specs.States.{lengths_of}
+use Rattle.sa_call.specs.declared.decls.Kind.{Kind}
+use Rattle.sa_call.specs.declared.decls.Kind.TheVariants as kind
+use Rattle.sa_hall.specs.Domains.{ArePlains}
+use Rattle.sa_call.specs.Decls.{Declared, HasWidths, IsDeclared, array_at, length_at, home_of, kind_of, is_strings, is_strings_array, entries_at, entries_of}
+use Rattle.sa_call.specs.Told.{is_among, index_at_home}
+use Rattle.sa_loop.specs.States.{lengths_of, plain_kind, plain_shape, plains_of}
 use Rattle.sa_loop.proofs.PieceLemmas.{sum-cons}
 
 -- one more of a kind, and one more of another
@@ -74,56 +81,130 @@ kept_at f p (x ∷ xs) (suc k) d e below h = go (p x) refl (kept_at f p xs k d e
 abbrev no_array : ArrayDecl
 no_array = array_at [] 0
 
--- an array is one of its home's
-at_home : (d : Declared) (k : ℕ) → is_at (home_of d k) (array_at d.arrays k) ≡ true
-at_home d k = eq-eqb (home_of d k) (home_of d k) refl
+-- an array is one of its home's, among those of its sort
+among_home : (d : Declared) (k : ℕ) (b : Bool) → is_strings_array d k ≡ b → is_among b (home_of d k) (array_at d.arrays k) ≡ true
+among_home d k true e = and_from (eqb (home_of d k) (home_of d k)) (is_strings_array d k) (eq-eqb (home_of d k) (home_of d k) refl) e
+among_home d k false e = and_from (eqb (home_of d k) (home_of d k)) (not (is_strings_array d k)) (eq-eqb (home_of d k) (home_of d k) refl) (ap not e)
 
--- an array's number at its home, and its length there
+-- its number there
+index-is : (d : Declared) (a : ℕ) (b : Bool) → is_strings_array d a ≡ b → index_at_home d a ≡ count_by (is_among b (home_of d a)) (take a d.arrays)
+index-is d a b e = ap (λ (c : Bool). count_by (is_among c (home_of d a)) (take a d.arrays)) e
 
-length-lengths : (d : Declared) (h : ℕ) → length (lengths_of d h) ≡ length (filter (is_at h) d.arrays)
-length-lengths d h = length-map (filter (is_at h) d.arrays) (λ (a : ArrayDecl). a.len)
-
-pub slot-within : (d : Declared) (a : ℕ) → a < length d.arrays → index_at_home d a < length (lengths_of d (home_of d a))
-slot-within d a below =
-    let room = slot_below (is_at (home_of d a)) d.arrays a no_array below (at_home d a) in
-    let long = length-lengths d (home_of d a) in
-    let count = length-filter (is_at (home_of d a)) d.arrays in
+-- there are more of its sort than its number
+within-sort : {B : Type 0} (f : ArrayDecl → B) (d : Declared) (a : ℕ) (b : Bool) → is_strings_array d a ≡ b → a < length d.arrays → index_at_home d a < length (map f (filter (is_among b (home_of d a)) d.arrays))
+within-sort f d a b e below =
+    let room = slot_below (is_among b (home_of d a)) d.arrays a no_array below (among_home d a b e) in
+    let long = length-map (filter (is_among b (home_of d a)) d.arrays) f in
+    let count = length-filter (is_among b (home_of d a)) d.arrays in
+    let at = index-is d a b e in
     omega arith
 
-pub slot-length : (d : Declared) (a : ℕ) → a < length d.arrays → get_or (lengths_of d (home_of d a)) (index_at_home d a) 0 ≡ length_at d.arrays a
-slot-length d a below = kept_at (λ (x : ArrayDecl). x.len) (is_at (home_of d a)) d.arrays a no_array 0 below (at_home d a)
+-- and it is the one of its number
+at-sort : {B : Type 0} (f : ArrayDecl → B) (d : Declared) (a : ℕ) (b : Bool) (none : B) → is_strings_array d a ≡ b → a < length d.arrays → get_or (map f (filter (is_among b (home_of d a)) d.arrays)) (index_at_home d a) none ≡ f (array_at d.arrays a)
+at-sort f d a b none e below =
+    ap (λ n. get_or (map f (filter (is_among b (home_of d a)) d.arrays)) n none) (index-is d a b e)
+    ∙ kept_at f (is_among b (home_of d a)) d.arrays a no_array none below (among_home d a b e)
 
--- two arrays of one home have two numbers there
-pub slots-differ : (d : Declared) (a b : ℕ) → a < length d.arrays → b < length d.arrays → a ≢ b → home_of d a ≡ home_of d b → index_at_home d a ≢ index_at_home d b
-slots-differ d a b below_a below_b apart home same =
-    slots_apart (is_at (home_of d b)) d.arrays a b no_array below_a below_b (subst (λ h. is_at h (array_at d.arrays a) ≡ true) home (at_home d a)) (at_home d b) apart
-    (ap (λ h. count_by (is_at h) (take a d.arrays)) (sym home) ∙ same)
+-- a strings array's number at its home, and its length there
+
+pub slot-within : (d : Declared) (a : ℕ) → is_strings_array d a ≡ true → a < length d.arrays → index_at_home d a < length (lengths_of d (home_of d a))
+slot-within d a strings below = within-sort (λ (x : ArrayDecl). x.len) d a true strings below
+
+pub slot-length : (d : Declared) (a : ℕ) → is_strings_array d a ≡ true → a < length d.arrays → get_or (lengths_of d (home_of d a)) (index_at_home d a) 0 ≡ length_at d.arrays a
+slot-length d a strings below = at-sort (λ (x : ArrayDecl). x.len) d a true 0 strings below
+
+-- a plain array's number at its home, and its kind and length there
+
+pub plain-within : (d : Declared) (a : ℕ) → is_strings_array d a ≡ false → a < length d.arrays → index_at_home d a < length (plains_of d (home_of d a))
+plain-within d a other below = within-sort plain_shape d a false other below
+
+abbrev pub no_plain : PlainKind × ℕ
+no_plain = (plain.Int, 0)
+
+pub plain-shape : (d : Declared) (a : ℕ) → is_strings_array d a ≡ false → a < length d.arrays → get_or (plains_of d (home_of d a)) (index_at_home d a) no_plain ≡ (plain_kind (kind_of d a), length_at d.arrays a)
+plain-shape d a other below = at-sort plain_shape d a false no_plain other below
+
+-- two arrays of one home and one sort have two numbers there
+pub slots-differ : (d : Declared) (a b : ℕ) (s : Bool) → is_strings_array d a ≡ s → is_strings_array d b ≡ s → a < length d.arrays → b < length d.arrays → a ≢ b → home_of d a ≡ home_of d b → index_at_home d a ≢ index_at_home d b
+slots-differ d a b s at_a at_b below_a below_b apart home same =
+    let p = is_among s (home_of d b) in
+    slots_apart p d.arrays a b no_array below_a below_b (subst (λ h. is_among s h (array_at d.arrays a) ≡ true) home (among_home d a s at_a)) (among_home d b s at_b) apart
+    (ap (λ h. count_by (is_among s h) (take a d.arrays)) (sym home) ∙ (sym (index-is d a s at_a) ∙ (same ∙ index-is d b s at_b)))
 
 -- lengths of a home's arrays are within a store's limits
 
-sum-entries : (arrays : List ArrayDecl) (h : ℕ) → sum (map (λ (a : ArrayDecl). a.len) (filter (is_at h) arrays)) ≡ entries_of arrays h
-sum-entries [] h = refl
+sum-entries : (arrays : List ArrayDecl) (h : ℕ) → sum (map (λ (a : ArrayDecl). a.len) (filter (is_among true h) arrays)) ≤ entries_of arrays h
+sum-entries [] h = omega arith
 sum-entries (a ∷ arrays) h =
     let right = sum_by-cons (entries_at h) a arrays in
     let again = sum-entries arrays h in
-    elim (cases_Bool (is_at h a)) [
-      | inl t ↦
-          let here : entries_at h a ≡ a.len = rw t refl in
-          let kept : filter (is_at h) (a ∷ arrays) ≡ a ∷ filter (is_at h) arrays = rw t refl in
-          let left = sum-cons a.len (map (λ (x : ArrayDecl). x.len) (filter (is_at h) arrays)) in
-          ap (λ (xs : List ArrayDecl). sum (map (λ (x : ArrayDecl). x.len) xs)) kept ∙ omega arith
-      | inr f ↦
-          let here : entries_at h a ≡ 0 = rw f refl in
-          let dropped : filter (is_at h) (a ∷ arrays) ≡ filter (is_at h) arrays = rw f refl in
-          ap (λ (xs : List ArrayDecl). sum (map (λ (x : ArrayDecl). x.len) xs)) dropped ∙ omega arith
-    ]
+    go (is_among true h a) refl right again
+  where
+    rest : List ArrayDecl
+    rest = filter (is_among true h) arrays
+
+    go : (b : Bool) → is_among true h a ≡ b → entries_of (a ∷ arrays) h ≡ entries_at h a + entries_of arrays h → sum (map (λ (x : ArrayDecl). x.len) rest) ≤ entries_of arrays h
+        → sum (map (λ (x : ArrayDecl). x.len) (cond b (a ∷ rest) rest)) ≤ entries_of (a ∷ arrays) h
+    go true t right again =
+        let home = and_parts (eqb a.home h) (is_strings a.kind) t in
+        let here : entries_at h a ≡ a.len = ap (λ (b : Bool). cond b a.len 0) home.0 in
+        let left = sum-cons a.len (map (λ (x : ArrayDecl). x.len) rest) in
+        omega arith
+    go false f right again = omega arith
 
 pub small-lengths : (d : Declared) (h : ℕ) → IsDeclared d → IsSmall (lengths_of d h)
 small-lengths d h declared =
     let all = sum-entries d.arrays h in
     let most = declared.entries h in
     let few = declared.arrays in
-    let long = length-lengths d h in
-    let count = length-filter (is_at h) d.arrays in
-    let within = count_by-le-length (is_at h) d.arrays in
+    let long = length-map (filter (is_among true h) d.arrays) (λ (a : ArrayDecl). a.len) in
+    let count = length-filter (is_among true h) d.arrays in
+    let within = count_by-le-length (is_among true h) d.arrays in
     record { arrays = omega arith; entries = omega arith }
+
+-- plain arrays of a home have widths and lengths that they may have
+
+abbrev IsSmallPlain : PlainKind × ℕ → Type 0
+IsSmallPlain p = HasWidth p.0 × (p.1 ≤ most_cells)
+
+plain-width : (k : Kind) → HasWidths k → HasWidth (plain_kind k)
+plain-width kind.Str width = tt
+plain-width (kind.Plain p) width = width
+
+each-small : (arrays : List ArrayDecl) (h : ℕ) → AllByRecursion (λ (a : ArrayDecl). HasWidths a.kind) arrays → entries_of arrays h ≤ 8192 → AllByRecursion IsSmallPlain (map plain_shape (filter (is_among false h) arrays))
+each-small [] h widths few = tt
+each-small (a ∷ arrays) h widths few =
+    let right = sum_by-cons (entries_at h) a arrays in
+    go (is_among false h a) refl right (each-small arrays h widths.1 (omega arith))
+  where
+    rest : List ArrayDecl
+    rest = filter (is_among false h) arrays
+
+    go : (b : Bool) → is_among false h a ≡ b → entries_of (a ∷ arrays) h ≡ entries_at h a + entries_of arrays h → AllByRecursion IsSmallPlain (map plain_shape rest) → AllByRecursion IsSmallPlain (map plain_shape (cond b (a ∷ rest) rest))
+    go true t right again =
+        let home = and_parts (eqb a.home h) (not (is_strings a.kind)) t in
+        let here : entries_at h a ≡ a.len = ap (λ (b : Bool). cond b a.len 0) home.0 in
+        ((plain-width a.kind widths.0, omega arith), again)
+    go false f right again = again
+
+pub small-plains : (d : Declared) (h : ℕ) → IsDeclared d → ArePlains (plains_of d h)
+small-plains d h declared = All-from_recursion IsSmallPlain (plains_of d h) (each-small d.arrays h declared.widths (declared.entries h))
+
+-- an array has no more entries than its home has
+
+one-entries : (arrays : List ArrayDecl) (k : ℕ) (x : ArrayDecl) → k < length arrays → (get_or arrays k x).len ≤ entries_of arrays (get_or arrays k x).home
+one-entries [] k x below = absurd (omega arith)
+one-entries (a ∷ arrays) zero x below =
+    let right = sum_by-cons (entries_at a.home) a arrays in
+    let here : entries_at a.home a ≡ a.len = ap (λ (b : Bool). cond b a.len 0) (eq-eqb a.home a.home refl) in
+    omega arith
+one-entries (a ∷ arrays) (suc k) x below =
+    let right = sum_by-cons (entries_at (get_or arrays k x).home) a arrays in
+    let again = one-entries arrays k x (omega arith) in
+    omega arith
+
+pub length-few : (d : Declared) (a : ℕ) → IsDeclared d → a < length d.arrays → length_at d.arrays a ≤ 8192
+length-few d a declared below =
+    let one = one-entries d.arrays a no_array below in
+    let most = declared.entries (home_of d a) in
+    omega arith

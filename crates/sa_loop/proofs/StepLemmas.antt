@@ -1,98 +1,137 @@
--- One put into a layout and into the state that it shows, and puts one after another.
-use Rattle.std.proofs.Common.{◌≡◌, ◌<◌, ◌+◌, ℕ, List, [], ◌∷◌, length, map, take, drop, sum, get_or, set, refl, sym, ap, ◌∙◌, subst, arith}
+-- One put into what a descriptor holds and into the state that it shows, and puts one after another.
+use Rattle.std.proofs.Common.{◌≡◌, ◌<◌, ◌+◌, ℕ, zero, suc, Bool, true, false, cond, List, [], ◌∷◌, length, map, take, drop, sum, get_or, set, length-set, refl, sym, ap, ◌∙◌, subst, arith}
 use Rattle.std.specs.List.{AllByRecursion, zip}
 use Rattle.std.proofs.lemmas.List.{length-map, length-drop, length-take-le, get_or-map, get_or-take, get_or-drop}
 use Rattle.sa_base.specs.Items.{Item}
 use Rattle.sa_base.specs.Deeds.{Place, Write, Put, Tidy}
 use Rattle.sa_text.specs.Values.{value_of, item_of}
 use Rattle.sa_text.specs.declared.value.Value.{Value}
-use Rattle.sa_text.specs.declared.value.Value.TheVariants.{Missing, Of}
 use Rattle.sa_alloc.specs.Layouts as layouts
-use Rattle.sa_alloc.specs.Layouts.{Layout, IsSound, first_entry, put, put_all, value_at, value_in}
-use Rattle.sa_alloc.specs.Stores.{puts_from}
+use Rattle.sa_alloc.specs.Layouts.{Layout, IsSound, first_entry, put, value_at, value_in}
 use Rattle.sa_alloc.proofs.LayoutLemmas.{put-sound, put-lengths, put-entries, values-put}
+use Rattle.sa_plain.specs.Plains as plains
+use Rattle.sa_plain.specs.Plains.{PlainValue, with_item}
+use Rattle.sa_plain.specs.Items.{items_of}
+use Rattle.sa_plain.specs.declared.items.Items.{Items}
 use Rattle.sa_plain.specs.declared.items.Items.TheVariants.{Values}
 use Rattle.sa_view.specs.declared.view.View.{View}
 use Rattle.sa_view.specs.Views.{places_of}
-use Rattle.sa_call.specs.Decls.{Declared}
+use Rattle.sa_call.specs.Decls.{Declared, is_strings_array}
 use Rattle.sa_call.specs.Told.{place_in, index_at_home}
-use Rattle.sa_loop.specs.Runs.{IsLayout, IsShown, pieces, shown, strings_in}
-use Rattle.sa_loop.specs.States.{State}
-use Rattle.sa_loop.specs.Writes.{entry_at, layout_written, put_item, puts_told, written}
+use Rattle.sa_hall.specs.Changes.{plain_write_of, write_of}
+use Rattle.sa_hall.specs.Contents as contents
+use Rattle.sa_hall.specs.Contents.{Contents, after_writes, entry_at, plain_at}
+use Rattle.sa_loop.specs.Runs.{IsContents, IsShown, held_in, pieces, plain_shapes, shown, strings_in}
+use Rattle.sa_loop.specs.States.{State, array_in}
+use Rattle.sa_loop.specs.Writes.{put_item, puts_told, written}
 use Rattle.sa_loop.proofs.PieceLemmas.{pieces-set, piece-at, sum-within}
 
--- the place of a write is one of the arrays of these lengths
+-- the place of a write, where it is a strings array's, is one of the arrays of these lengths
 abbrev pub IsWithin : List ℕ → Write → Type 0
-IsWithin lengths (Put p item) = (p.array < length lengths) × (p.place < get_or lengths p.array 0)
+IsWithin lengths (Put p item) = p.is_strings ≡ true → (p.array < length lengths) × (p.place < get_or lengths p.array 0)
 IsWithin lengths Tidy = ⊥
 
--- one put
+-- one put, into a strings array or a plain one
 
-pub layout-put : (decls : Declared) (d : ℕ) (l : Layout) (entry : ℕ) (v : Value) → IsLayout decls d l → IsLayout decls d (put l entry v)
-layout-put decls d l entry v is = record {
-  sound = put-sound l entry v is.sound;
-  lengths = put-lengths l entry v ∙ is.lengths;
-  states = put-entries l entry v ∙ is.states ∙ ap sum (sym (put-lengths l entry v));
+abbrev pub contents_put : Bool → Contents → Place → Item → Contents
+contents_put b c p item = record {
+  layout = cond b (put c.layout (entry_at c.layout p) (value_of item)) c.layout;
+  plains = cond b c.plains (set c.plains p.array (plains.put_item (plain_at c.plains p.array) p.place item));
 }
 
-pub shown-put : (l : Layout) (p : Place) (item : Item) → IsSound l → IsWithin l.lengths (Put p item) → shown (put l (entry_at l p) (value_of item)) ≡ put_item (shown l) p item
-shown-put l p item sound within =
+abbrev pub state_put : Bool → State → Place → Item → State
+state_put b s p item = record {
+  strings = cond b (set s.strings p.array (set (array_in s p.array) p.place (value_of item))) s.strings;
+  plains = cond b s.plains (set s.plains p.array (plains.put_item (plain_at s.plains p.array) p.place item));
+  layout = cond b (put s.layout (entry_at s.layout p) (value_of item)) s.layout;
+}
+
+-- an item in one plain array leaves the kinds and lengths of all
+plains-put : (ps : List PlainValue) (k place : ℕ) (item : Item) (none : PlainValue) → plain_shapes (set ps k (with_item (get_or ps k none) place item)) ≡ plain_shapes ps
+plains-put [] k place item none = refl
+plains-put (p ∷ ps) zero place item none = ap (λ n. (p.kind, n) ∷ plain_shapes ps) (length-set p.items place item)
+plains-put (p ∷ ps) (suc k) place item none = ap (λ xs. (p.kind, length p.items) ∷ xs) (plains-put ps k place item none)
+
+contents-put : (decls : Declared) (d : ℕ) (b : Bool) (c : Contents) (p : Place) (item : Item) → IsContents decls d c → IsContents decls d (contents_put b c p item)
+contents-put decls d true c p item is =
+    let entry = entry_at c.layout p in
+    let v = value_of item in
+    record {
+      sound = put-sound c.layout entry v is.sound;
+      lengths = put-lengths c.layout entry v ∙ is.lengths;
+      states = put-entries c.layout entry v ∙ is.states ∙ ap sum (sym (put-lengths c.layout entry v));
+      plains = is.plains;
+    }
+contents-put decls d false c p item is = record {
+  sound = is.sound;
+  lengths = is.lengths;
+  states = is.states;
+  plains = plains-put c.plains p.array p.place _ _ ∙ is.plains;
+}
+
+shown-put : (c : Contents) (b : Bool) (p : Place) (item : Item) → IsSound c.layout → (b ≡ true → (p.array < length c.layout.lengths) × (p.place < get_or c.layout.lengths p.array 0)) → shown (contents_put b c p item) ≡ state_put b (shown c) p item
+shown-put c true p item sound inside =
+    let l = c.layout in
     let v = value_of item in
     let after = put l (entry_at l p) v in
+    let within = inside refl in
     let strings : strings_in after ≡ set (strings_in l) p.array (set (get_or (strings_in l) p.array []) p.place v) =
     ap (λ ns. pieces ns (layouts.values_of after)) (put-lengths l (entry_at l p) v)
     ∙ ap (pieces l.lengths) (values-put l (entry_at l p) v sound)
     ∙ pieces-set l.lengths (layouts.values_of l) p.array p.place v within.0 within.1 in
-    ap (λ xs. let s : State = record { strings = xs; layout = after } in s) strings
+    ap (λ xs. let s : State = record { strings = xs; plains = c.plains; layout = after } in s) strings
+shown-put c false p item sound inside = refl
+
+-- it leaves the lengths
+lengths-put : (c : Contents) (b : Bool) (p : Place) (item : Item) → (contents_put b c p item).layout.lengths ≡ c.layout.lengths
+lengths-put c true p item = put-lengths c.layout (entry_at c.layout p) (value_of item)
+lengths-put c false p item = refl
 
 -- puts one after another
 
-pub record IsStep (decls : Declared) (d : ℕ) (l : Layout) (ws : List Write) : Type 0 where
-  pub layout : IsLayout decls d (layout_written l ws)
-  pub shows : shown (layout_written l ws) ≡ written (shown l) ws
+pub record IsStep (decls : Declared) (d : ℕ) (c : Contents) (ws : List Write) : Type 0 where
+  pub contents : IsContents decls d (after_writes c ws)
+  pub shows : shown (after_writes c ws) ≡ written (shown c) ws
 
-pub steps : (decls : Declared) (d : ℕ) (l : Layout) (ws : List Write) → IsLayout decls d l → AllByRecursion (IsWithin l.lengths) ws → IsStep decls d l ws
-steps decls d l [] is all = record { layout = is; shows = refl }
-steps decls d l (Put p item ∷ ws) is all =
-    let v = value_of item in
-    let after = put l (entry_at l p) v in
-    let inside = subst (λ ns. AllByRecursion (IsWithin ns) ws) (sym (put-lengths l (entry_at l p) v)) all.1 in
-    let rest = steps decls d after ws (layout-put decls d l (entry_at l p) v is) inside in
-    record { layout = rest.layout; shows = rest.shows ∙ ap (λ s. written s ws) (shown-put l p item is.sound all.0) }
-steps decls d l (Tidy ∷ ws) is all = absurd all.0
+pub steps : (decls : Declared) (d : ℕ) (c : Contents) (ws : List Write) → IsContents decls d c → AllByRecursion (IsWithin c.layout.lengths) ws → IsStep decls d c ws
+steps decls d c [] is all = record { contents = is; shows = refl }
+steps decls d c (Put p item ∷ ws) is all =
+    let after = contents_put p.is_strings c p item in
+    let inside = subst (λ ns. AllByRecursion (IsWithin ns) ws) (sym (lengths-put c p.is_strings p item)) all.1 in
+    let rest = steps decls d after ws (contents-put decls d p.is_strings c p item is) inside in
+    record { contents = rest.contents; shows = rest.shows ∙ ap (λ s. written s ws) (shown-put c p.is_strings p item is.sound all.0) }
+steps decls d c (Tidy ∷ ws) is all = absurd all.0
 
--- a state stays the one that its layout shows
+-- a state stays the one that its contents show
 pub written-shown : (decls : Declared) (d : ℕ) (s : State) (ws : List Write) → IsShown decls d s → AllByRecursion (IsWithin s.layout.lengths) ws → IsShown decls d (written s ws)
 written-shown decls d s ws is all =
-    let step = steps decls d s.layout ws is.layout all in
-    let after : shown (layout_written s.layout ws) ≡ written s ws = step.shows ∙ sym (ap (λ x. written x ws) is.items) in
-    subst (IsShown decls d) after (record { layout = step.layout; items = refl })
+    let step = steps decls d (held_in s) ws is.contents all in
+    let after : shown (after_writes (held_in s) ws) ≡ written s ws = step.shows ∙ sym (ap (λ x. written x ws) is.items) in
+    subst (IsShown decls d) after (record { contents = step.contents; items = refl })
 
--- the writes of values into an array are the puts of a plan
+-- the writes of results, by the sort of the array
 
-value-of-item : (v : Value) → value_of (item_of v) ≡ v
-value-of-item Missing = refl
-value-of-item (Of text) = refl
+abbrev pub place_as : Bool → ℕ → ℕ → Place
+place_as b array p = record { is_strings = b; array = array; place = p }
 
-pub written-put_all : (decls : Declared) (v : View) (l : Layout) (ps : List ℕ) (vs : List Value)
-    → layout_written l (map (λ p. Put (place_in decls v p.0) (item_of p.1)) (zip ps vs)) ≡ put_all l (puts_from (first_entry l.lengths (index_at_home decls v.array)) (zip ps vs))
-written-put_all decls v l [] vs = refl
-written-put_all decls v l (p ∷ ps) [] = refl
-written-put_all decls v l (p ∷ ps) (x ∷ vs) =
-    let slot = index_at_home decls v.array in
-    let entry = first_entry l.lengths slot + p in
-    let after = put l entry x in
-    ap (λ y. layout_written (put l entry y) (map (λ q. Put (place_in decls v q.0) (item_of q.1)) (zip ps vs))) (value-of-item x)
-    ∙ written-put_all decls v after ps vs
-    ∙ ap (λ ns. put_all after (puts_from (first_entry ns slot) (zip ps vs))) (put-lengths l entry x)
+abbrev pub puts_as : Bool → ℕ → List ℕ → List Item → List Write
+puts_as b array ps items = map (λ p. Put p.0 p.1) (zip (map (place_as b array) ps) items)
 
-pub puts-told : (decls : Declared) (v : View) (ps : List ℕ) (vs : List Value) → map (λ p. Put p.0 p.1) (zip (map (place_in decls v) ps) (map item_of vs)) ≡ map (λ p. Put (place_in decls v p.0) (item_of p.1)) (zip ps vs)
-puts-told decls v [] vs = refl
-puts-told decls v (p ∷ ps) [] = refl
-puts-told decls v (p ∷ ps) (x ∷ vs) = ap (λ ws. Put (place_in decls v p) (item_of x) ∷ ws) (puts-told decls v ps vs)
+values-put_as : (array : ℕ) (ps : List ℕ) (vs : List Value) → puts_as true array ps (map item_of vs) ≡ map (write_of array) (zip ps vs)
+values-put_as array [] vs = refl
+values-put_as array (p ∷ ps) [] = refl
+values-put_as array (p ∷ ps) (x ∷ vs) = ap (λ ws. Put (place_as true array p) (item_of x) ∷ ws) (values-put_as array ps vs)
 
-pub results-put_all : (decls : Declared) (v : View) (l : Layout) (vs : List Value) → layout_written l (puts_told decls v (Values vs)) ≡ put_all l (puts_from (first_entry l.lengths (index_at_home decls v.array)) (zip (places_of v) vs))
-results-put_all decls v l vs = ap (layout_written l) (puts-told decls v (places_of v) vs) ∙ written-put_all decls v l (places_of v) vs
+items-put_as : (array : ℕ) (ps : List ℕ) (items : List Item) → puts_as false array ps items ≡ map (plain_write_of array) (zip ps items)
+items-put_as array [] items = refl
+items-put_as array (p ∷ ps) [] = refl
+items-put_as array (p ∷ ps) (x ∷ items) = ap (λ ws. Put (place_as false array p) x ∷ ws) (items-put_as array ps items)
+
+pub strings-told : (decls : Declared) (v : View) (vs : List Value) → is_strings_array decls v.array ≡ true → puts_told decls v (Values vs) ≡ map (write_of (index_at_home decls v.array)) (zip (places_of v) vs)
+strings-told decls v vs strings = ap (λ (b : Bool). puts_as b (index_at_home decls v.array) (places_of v) (map item_of vs)) strings ∙ values-put_as (index_at_home decls v.array) (places_of v) vs
+
+pub plains-told : (decls : Declared) (v : View) (items : Items) → is_strings_array decls v.array ≡ false → puts_told decls v items ≡ map (plain_write_of (index_at_home decls v.array)) (zip (places_of v) (items_of items))
+plains-told decls v items other = ap (λ (b : Bool). puts_as b (index_at_home decls v.array) (places_of v) (items_of items)) other ∙ items-put_as (index_at_home decls v.array) (places_of v) (items_of items)
 
 -- an entry and the items of its array
 

@@ -1,4 +1,4 @@
--- What was read for a call is what it takes of the world that the layouts show.
+-- What was read for a call is what it takes of the world that the contents show.
 use Rattle.std.proofs.Common.{◌≡◌, ◌<◌, ◌≤◌, ◌+◌, ℕ, eqb, Bool, true, false, ◌||◌, inl, inr, List, [], ◌∷◌, ◌++◌, length, map, replicate, Option, Some, None, refl, sym, ap, ◌∙◌, subst, arith}
 use Rattle.std.specs.List.{AllByRecursion, list_all, list_any, filter, sum, sum_by, zip, range_with_len}
 use Rattle.std.specs.Option.{is_some}
@@ -9,11 +9,10 @@ use Rattle.std.proofs.lemmas.List.FromFn.{length-map-range_with_len}
 use Rattle.std.proofs.lemmas.List.Sums.{length-filter, sum-map, sum_by-cons}
 use Rattle.sa_base.specs.Items.{Item}
 use Rattle.sa_base.specs.Deeds.{Place, Part, Read, Counted, Pictured, picture_weight}
-use Rattle.sa_text.specs.Values.{item_of}
-use Rattle.sa_view.specs.Views.{place_at, places_of}
+use Rattle.sa_view.specs.Views.{place_at}
 use Rattle.sa_view.specs.declared.view.View.{View}
 use Rattle.sa_alloc.specs.Layouts.{Layout, stats_of, entry_image, entry_images, arena_image}
-use Rattle.sa_plain.specs.Items.{count_of}
+use Rattle.sa_plain.specs.Items.{count_of, items_of}
 use Rattle.sa_plain.specs.declared.items.Items.{Items}
 use Rattle.sa_call.specs.declared.call.Call.{Call}
 use Rattle.sa_call.specs.declared.call.Op.{Op}
@@ -25,37 +24,39 @@ use Rattle.sa_call.specs.declared.operands.Operands.{Operands}
 use Rattle.sa_call.specs.declared.operands.Operands.TheVariants as operands
 use Rattle.sa_call.specs.Decls.{Declared, IsDeclared, home_of}
 use Rattle.sa_call.specs.Forms.{entry, descr_of}
+use Rattle.sa_call.specs.Kinds.{lists_fit}
 use Rattle.sa_call.specs.Parts.{Parts, literal_weight, part_weight, weight_read}
 use Rattle.sa_call.specs.Told.{has_weight, homes_of, is_named, is_number, items_told, operand_is_at, output_is_at, parts_told, places_in, places_told, view_counts, weighed_by, weighed_parts}
-use Rattle.sa_call.specs.Valid.{IsCall, IsLiteralOperand, all_values, is_descr_of, is_operand_of, is_view_of}
+use Rattle.sa_call.specs.Valid.{IsCall, IsLiteralOperand, is_descr_of, is_operand_of, is_view_of}
 use Rattle.sa_call.proofs.OpLemmas.{few-operands, on-none, on-whole, whole-alone}
-use Rattle.sa_call.proofs.PartLemmas.{count-once, sum_by-map}
+use Rattle.sa_call.proofs.PartLemmas.{count-once, length-items, sum_by-map}
+use Rattle.sa_hall.specs.Contents.{Contents}
 use Rattle.sa_loop.specs.Held.{AreHeld, AreShort, CanTake, HasShape, IsShort, IsTaken, IsTakenWhole}
 use Rattle.sa_loop.specs.Runs.{world_of}
-use Rattle.sa_loop.specs.States.{State, World, view_values}
-use Rattle.sa_loop.specs.Takes.{call_weight, is_heavy, items_taken, part, part_by, parts_of, views_read, weight, weight_by, weights_in}
-use Rattle.sa_loop.proofs.PartLemmas.{parts-tell}
+use Rattle.sa_loop.specs.States.{State, World, view_items}
+use Rattle.sa_loop.specs.Takes.{call_weight, is_heavy, items_taken, part, part_by, parts_of, views_taken, weight, weight_by, weights_in}
+use Rattle.sa_loop.proofs.PartLemmas.{parts-tell, view-many}
 use Rattle.sa_loop.proofs.SlotLemmas.{small-lengths}
 use Rattle.sa_loop.proofs.WorldLemmas.{view-known}
 
 -- the operands of a valid call are held, and short
 
-held-operands : (decls : Declared) (held : ℕ → Bool) (layouts : ℕ → Layout) (os : List Operand) → IsDeclared decls → list_all (is_operand_of decls) os ≡ true
-    → ((d : ℕ) → list_any (operand_is_at decls d) os ≡ true → (held d ≡ true) × HasShape decls d (layouts d)) → AreHeld decls held layouts os
-held-operands decls held layouts [] declared views named = tt
-held-operands decls held layouts (operand.Literal items ∷ os) declared views named = (tt, held-operands decls held layouts os declared views named)
-held-operands decls held layouts (operand.View v ∷ os) declared views named =
+held-operands : (decls : Declared) (held : ℕ → Bool) (holds : ℕ → Contents) (os : List Operand) → IsDeclared decls → list_all (is_operand_of decls) os ≡ true
+    → ((d : ℕ) → list_any (operand_is_at decls d) os ≡ true → (held d ≡ true) × HasShape decls d (holds d)) → AreHeld decls held holds os
+held-operands decls held holds [] declared views named = tt
+held-operands decls held holds (operand.Literal items ∷ os) declared views named = (tt, held-operands decls held holds os declared views named)
+held-operands decls held holds (operand.View v ∷ os) declared views named =
     let parts = and_parts (is_view_of decls v) (list_all (is_operand_of decls) os) views in
     let known = view-known decls v parts.0 in
     let h = home_of decls v.array in
     let here = named h (or_left (eqb h h) (list_any (operand_is_at decls h) os) (eq-eqb h h refl)) in (
       record { home = here.0; inside = record { declared = declared; array = known.0; view = known.1; shape = here.1 } },
-      held-operands decls held layouts os declared parts.1 (λ d any. named d (or_right (eqb h d) (list_any (operand_is_at decls d) os) any)),
+      held-operands decls held holds os declared parts.1 (λ d any. named d (or_right (eqb h d) (list_any (operand_is_at decls d) os) any)),
     )
 
-pub are-held : (decls : Declared) (held : ℕ → Bool) (layouts : ℕ → Layout) (call : Call) → CanTake decls held layouts call → AreHeld decls held layouts call.operands
-are-held decls held layouts call can =
-    held-operands decls held layouts call.operands can.declared can.valid.views
+pub are-held : (decls : Declared) (held : ℕ → Bool) (holds : ℕ → Contents) (call : Call) → CanTake decls held holds call → AreHeld decls held holds call.operands
+are-held decls held holds call can =
+    held-operands decls held holds call.operands can.declared can.valid.views
     (λ d any.
     let viewed = or_left (list_any (operand_is_at decls d) call.operands) (output_is_at decls d call.out) any in
     let named = or_left (list_any (operand_is_at decls d) call.operands || output_is_at decls d call.out) (is_number d (descr_of call.op)) viewed in
@@ -85,27 +86,30 @@ given-statistics o some other = go (descr_of o) refl some
 
 -- the lists that were read of a world
 
-counts-read : (decls : Declared) (w : World) (os : List Operand) → map count_of (views_read decls w os) ≡ view_counts os
-counts-read decls w [] = refl
-counts-read decls w (operand.Literal items ∷ os) = counts-read decls w os
-counts-read decls w (operand.View v ∷ os) =
-    ap (λ n. n ∷ map count_of (views_read decls w os)) (length-map (places_of v) _ ∙ length-map-range_with_len (place_at v) 0 v.count)
-    ∙ ap (λ ns. v.count ∷ ns) (counts-read decls w os)
+counts-taken : (decls : Declared) (w : World) (os : List Operand) → map length (views_taken decls w os) ≡ view_counts os
+counts-taken decls w [] = refl
+counts-taken decls w (operand.Literal items ∷ os) = counts-taken decls w os
+counts-taken decls w (operand.View v ∷ os) =
+    ap (λ n. n ∷ map length (views_taken decls w os)) (view-many decls (w (home_of decls v.array)) v ∙ length-map-range_with_len (place_at v) 0 v.count)
+    ∙ ap (λ ns. v.count ∷ ns) (counts-taken decls w os)
 
-values-read : (decls : Declared) (w : World) (os : List Operand) → all_values (views_read decls w os) ≡ true
-values-read decls w [] = refl
-values-read decls w (operand.Literal items ∷ os) = values-read decls w os
-values-read decls w (operand.View v ∷ os) = values-read decls w os
+counts-items : (lists : List Items) → map count_of lists ≡ map length (map items_of lists)
+counts-items [] = refl
+counts-items (l ∷ lists) = ap (λ n. n ∷ map count_of lists) (sym (length-items l)) ∙ ap (λ ns. length (items_of l) ∷ ns) (counts-items lists)
 
-items-same : (decls : Declared) (w : World) (d : ℕ) (os : List Operand) → items_told decls d os (views_read decls w os) ≡ items_taken decls (w d) d os
-items-same decls w d [] = refl
-items-same decls w d (operand.Literal items ∷ os) = items-same decls w d os
-items-same decls w d (operand.View v ∷ os) =
+items-same : (decls : Declared) (w : World) (d : ℕ) (os : List Operand) (lists : List Items) → map items_of lists ≡ views_taken decls w os → items_told decls d os lists ≡ items_taken decls (w d) d os
+items-same decls w d [] lists read = refl
+items-same decls w d (operand.Literal items ∷ os) lists read = items-same decls w d os lists read
+items-same decls w d (operand.View v ∷ os) [] read = cc
+items-same decls w d (operand.View v ∷ os) (l ∷ lists) read =
     let h = home_of decls v.array in
-    let rest = items-same decls w d os in
-    let read : World → ℕ → List (Place × Item) = λ u k. zip (places_in decls v) (map item_of (view_values decls (u k) v)) in
+    let head : items_of l ≡ view_items decls (w h) v = cc in
+    let tail : map items_of lists ≡ views_taken decls w os = cc in
+    let rest = items-same decls w d os lists tail in
     elim (eqb_tells h d) [
-      | inl t ↦ rw t.0 (ap (λ k. read w k ++ items_told decls d os (views_read decls w os)) t.1 ∙ ap (λ xs. read w d ++ xs) rest)
+      | inl t ↦
+          let here : items_of l ≡ view_items decls (w d) v = head ∙ ap (λ k. view_items decls (w k) v) t.1 in
+          rw t.0 (ap (λ xs. zip (places_in decls v) xs ++ items_told decls d os lists) here ∙ ap (λ xs. zip (places_in decls v) (view_items decls (w d) v) ++ xs) rest)
       | inr f ↦ rw f.0 rest
     ]
 
@@ -127,14 +131,14 @@ weighed-same decls w call (d ∷ ds) other =
     ap (λ (p : Part). (d, p) ∷ weighed_parts decls call ds (map (λ k. weight decls (w k) call k) ds)) (weighed-one (entry call.op).gives decls (w d) call d other)
     ∙ ap (λ (ps : Parts). (d, part decls (w d) call true d) ∷ ps) (weighed-same decls w call ds other)
 
-read-same : (g : Gives) (decls : Declared) (w : World) (call : Call) (d : ℕ) → g ≡ gives.Items → Read (items_told decls d call.operands (views_read decls w call.operands)) ≡ part_by g decls (w d) call false d
-read-same gives.Items decls w call d same = ap (λ items. Read items) (items-same decls w d call.operands)
-read-same gives.Statistics decls w call d same = cc
-read-same gives.Picture decls w call d same = cc
+read-same : (g : Gives) (decls : Declared) (w : World) (call : Call) (lists : List Items) (d : ℕ) → map items_of lists ≡ views_taken decls w call.operands → g ≡ gives.Items → Read (items_told decls d call.operands lists) ≡ part_by g decls (w d) call false d
+read-same gives.Items decls w call lists d read same = ap (λ items. Read items) (items-same decls w d call.operands lists read)
+read-same gives.Statistics decls w call lists d read same = cc
+read-same gives.Picture decls w call lists d read same = cc
 
-reads-same : (decls : Declared) (w : World) (call : Call) (ds : List ℕ) → (entry call.op).gives ≡ gives.Items
-    → each (λ d. Read (items_told decls d call.operands (views_read decls w call.operands))) ds ≡ each (λ d. part decls (w d) call false d) ds
-reads-same decls w call ds same = ap (λ (f : ℕ → Part). each f ds) (λ i d. read-same (entry call.op).gives decls w call d same i)
+reads-same : (decls : Declared) (w : World) (call : Call) (lists : List Items) (ds : List ℕ) → map items_of lists ≡ views_taken decls w call.operands → (entry call.op).gives ≡ gives.Items
+    → each (λ d. Read (items_told decls d call.operands lists)) ds ≡ each (λ d. part decls (w d) call false d) ds
+reads-same decls w call lists ds read same = ap (λ (f : ℕ → Part). each f ds) (λ i d. read-same (entry call.op).gives decls w call lists d read same i)
 
 weight-all : (decls : Declared) (w : World) (call : Call) → sum (weights_in decls w call) + sum_by literal_weight call.operands ≡ call_weight decls w call
 weight-all decls w call = ap (λ n. n + sum_by literal_weight call.operands) (sum-map (λ d. weight decls (w d) call d) (homes_of decls call))
@@ -160,10 +164,10 @@ weighs gives.Statistics other = absurd (other refl)
 weighs gives.Picture other = refl
 
 -- what weighs too much is taken as its weights
-pub taken-heavy : (decls : Declared) (layouts : ℕ → Layout) (call : Call) (weights : List ℕ) (total : ℕ) → ((entry call.op).gives ≡ gives.Statistics → ⊥) → weights ≡ weights_in decls (world_of layouts) call
-    → sum weights + sum_by literal_weight call.operands ≡ total → 1048576 < total → IsTaken decls layouts call (operands.Big total) weights
-taken-heavy decls layouts call weights total other are sums heavy =
-    let w = world_of layouts in
+pub taken-heavy : (decls : Declared) (holds : ℕ → Contents) (call : Call) (weights : List ℕ) (total : ℕ) → ((entry call.op).gives ≡ gives.Statistics → ⊥) → weights ≡ weights_in decls (world_of holds) call
+    → sum weights + sum_by literal_weight call.operands ≡ total → 1048576 < total → IsTaken decls holds call (operands.Big total) weights
+taken-heavy decls holds call weights total other are sums heavy =
+    let w = world_of holds in
     let homes = homes_of decls call in
     let all : call_weight decls w call ≡ total = sym (weight-all decls w call) ∙ ap (λ (ws : List ℕ). sum ws + sum_by literal_weight call.operands) (sym are) ∙ sums in
     let over : is_heavy decls w call ≡ true = lt-ltb 1048576 (call_weight decls w call) (omega arith) in
@@ -178,19 +182,18 @@ taken-heavy decls layouts call weights total other are sums heavy =
     }
 
 -- what does not is taken as its items
-pub taken-light : (decls : Declared) (layouts : ℕ → Layout) (call : Call) (weights : List ℕ) (total : ℕ) (lists : List Items) (none : List ℕ) → (entry call.op).gives ≡ gives.Items → weights ≡ weights_in decls (world_of layouts) call
-    → sum weights + sum_by literal_weight call.operands ≡ total → total ≤ 1048576 → lists ≡ views_read decls (world_of layouts) call.operands → IsTaken decls layouts call (operands.Items lists) none
-taken-light decls layouts call weights total lists none same are sums light read =
-    let w = world_of layouts in
+pub taken-light : (decls : Declared) (holds : ℕ → Contents) (call : Call) (weights : List ℕ) (total : ℕ) (lists : List Items) (none : List ℕ) → (entry call.op).gives ≡ gives.Items → weights ≡ weights_in decls (world_of holds) call
+    → sum weights + sum_by literal_weight call.operands ≡ total → total ≤ 1048576 → map items_of lists ≡ views_taken decls (world_of holds) call.operands → lists_fit decls call.operands lists ≡ true → IsTaken decls holds call (operands.Items lists) none
+taken-light decls holds call weights total lists none same are sums light read fit =
+    let w = world_of holds in
     let homes = homes_of decls call in
     let all : call_weight decls w call ≡ total = sym (weight-all decls w call) ∙ ap (λ (ws : List ℕ). sum ws + sum_by literal_weight call.operands) (sym are) ∙ sums in
     let under : is_heavy decls w call ≡ false = le-ltb 1048576 (call_weight decls w call) (omega arith) in
     let parts : parts_told decls call (operands.Items lists) none ≡ parts_of decls w call =
-    ap (λ (ls : List Items). each (λ d. Read (items_told decls d call.operands ls)) homes) read
-    ∙ reads-same decls w call homes same
+    reads-same decls w call lists homes read same
     ∙ ap (λ (b : Bool). each (λ d. part decls (w d) call b d) homes) (sym under) in
     record {
-      are_operands = (same, ap (map count_of) read ∙ counts-read decls w call.operands, ap all_values read ∙ values-read decls w call.operands);
+      are_operands = (same, counts-items lists ∙ (ap (map length) read ∙ counts-taken decls w call.operands), fit);
       are_weights = tt;
       are_light = told-light decls w call (parts_told decls call (operands.Items lists) none) parts (omega arith);
       parts = parts;
@@ -246,19 +249,19 @@ weight-alone decls w call number valid is =
     ap (λ ds. sum_by weigh ds + sum_by literal_weight call.operands) one.0 ∙ ap (λ os. sum_by weigh (number ∷ []) + sum_by literal_weight os) one.1 ∙ omega arith
 
 -- a descriptor has few entries
-few-entries : (decls : Declared) (d : ℕ) (l : Layout) → IsDeclared decls → HasShape decls d l → length (entry_images l) ≤ 8192
-few-entries decls d l declared shape =
-    let many = length-map-range_with_len (entry_image l) 0 (length l.states) in
+few-entries : (decls : Declared) (d : ℕ) (c : Contents) → IsDeclared decls → HasShape decls d c → length (entry_images c.layout) ≤ 8192
+few-entries decls d c declared shape =
+    let many = length-map-range_with_len (entry_image c.layout) 0 (length c.layout.states) in
     let small = (small-lengths decls d declared).entries in
     let states = shape.states in
     let sums = ap sum shape.lengths in
     omega arith
 
-pub taken-whole : (decls : Declared) (held : ℕ → Bool) (layouts : ℕ → Layout) (call : Call) (number : ℕ) (l : Layout) (read : Operands) (weights : List ℕ) → CanTake decls held layouts call → descr_of call.op ≡ Some number → l ≡ layouts number
-    → IsTakenWhole (entry call.op).gives l read weights → IsTaken decls layouts call read weights
-taken-whole decls held layouts call number l (operands.Items lists) weights can is at whole = absurd whole
-taken-whole decls held layouts call number l (operands.Stats stats) weights can is at whole =
-    let w = world_of layouts in
+pub taken-whole : (decls : Declared) (held : ℕ → Bool) (holds : ℕ → Contents) (call : Call) (number : ℕ) (l : Layout) (read : Operands) (weights : List ℕ) → CanTake decls held holds call → descr_of call.op ≡ Some number → l ≡ (holds number).layout
+    → IsTakenWhole (entry call.op).gives l read weights → IsTaken decls holds call read weights
+taken-whole decls held holds call number l (operands.Items lists) weights can is at whole = absurd whole
+taken-whole decls held holds call number l (operands.Stats stats) weights can is at whole =
+    let w = world_of holds in
     let one = home-alone decls call number can.valid is in
     let heavy = is_heavy decls w call in
     let counted = part-counted (entry call.op).gives decls (w number) call heavy number whole.0 in
@@ -273,20 +276,20 @@ taken-whole decls held layouts call number l (operands.Stats stats) weights can 
       are_light = told-light decls w call (parts_told decls call (operands.Stats stats) weights) parts (omega arith);
       parts = parts;
     }
-taken-whole decls held layouts call number l (operands.Picture p) weights can is at whole =
-    let w = world_of layouts in
+taken-whole decls held holds call number l (operands.Picture p) weights can is at whole =
+    let w = world_of holds in
     let one = home-alone decls call number can.valid is in
     let pictured = part-pictured (entry call.op).gives decls (w number) call number whole.0 in
     let entries = whole.1 ∙ ap entry_images at in
     let arena = whole.2 ∙ ap arena_image at in
-    let most : picture_weight (entry_images (layouts number)) (arena_image (layouts number)) ≤ 1048576 = subst (λ (x : Layout). picture_weight (entry_images x) (arena_image x) ≤ 1048576) at whole.3 in
+    let most : picture_weight (entry_images (holds number).layout) (arena_image (holds number).layout) ≤ 1048576 = subst (λ (x : Layout). picture_weight (entry_images x) (arena_image x) ≤ 1048576) at whole.3 in
     let all = weight-alone decls w call number can.valid is ∙ pictured.1 in
     let under : is_heavy decls w call ≡ false = le-ltb 1048576 (call_weight decls w call) (omega arith) in
-    let long = few-entries decls number (layouts number) can.declared (can.shapes number (named-whole decls call number is)) in
+    let long = few-entries decls number (holds number) can.declared (can.shapes number (named-whole decls call number is)) in
     let parts : parts_told decls call (operands.Picture p) weights ≡ parts_of decls w call =
     ap (λ ds. each (λ d. Pictured p.entries p.arena) ds) one.0
     ∙ ap (λ es. (number, Pictured es p.arena) ∷ []) entries
-    ∙ ap (λ bs. (number, Pictured (entry_images (layouts number)) bs) ∷ []) arena
+    ∙ ap (λ bs. (number, Pictured (entry_images (holds number).layout) bs) ∷ []) arena
     ∙ ap (λ (q : Part). (number, q) ∷ []) (sym pictured.0)
     ∙ sym (ap (λ ds. each (λ d. part decls (w d) call false d) ds) one.0)
     ∙ ap (λ (b : Bool). each (λ d. part decls (w d) call b d) (homes_of decls call)) (sym under) in
@@ -296,8 +299,8 @@ taken-whole decls held layouts call number l (operands.Picture p) weights can is
       are_light = told-light decls w call (parts_told decls call (operands.Picture p) weights) parts (omega arith);
       parts = parts;
     }
-taken-whole decls held layouts call number l (operands.Big total) weights can is at whole =
-    let w = world_of layouts in
+taken-whole decls held holds call number l (operands.Big total) weights can is at whole =
+    let w = world_of holds in
     let one = home-alone decls call number can.valid is in
     let pictured = part-pictured (entry call.op).gives decls (w number) call number whole.0 in
     let weighs : total ≡ weight decls (w number) call number = whole.1 ∙ ap (λ (x : Layout). picture_weight (entry_images x) (arena_image x)) at ∙ sym pictured.1 in
@@ -305,4 +308,4 @@ taken-whole decls held layouts call number l (operands.Big total) weights can is
     let are : weights ≡ weights_in decls w call = whole.2 ∙ ap (λ n. n ∷ []) weighs ∙ sym (ap (λ ds. map (λ d. weight decls (w d) call d) ds) one.0) in
     let sums : sum weights + sum_by literal_weight call.operands ≡ total =
     ap (λ ws. sum ws + sum_by literal_weight call.operands) are ∙ weight-all decls w call ∙ weight-alone decls w call number can.valid is ∙ sym weighs in
-    taken-heavy decls layouts call weights total other are sums whole.3
+    taken-heavy decls holds call weights total other are sums whole.3

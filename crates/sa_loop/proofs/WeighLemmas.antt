@@ -1,22 +1,24 @@
 -- What is read or weighed of operands, one after another, and of descriptors.
 use Rattle.std.proofs.Common.{◌≡◌, ◌≢◌, ◌<◌, ◌+◌, ℕ, suc, Bool, true, false, cond, List, [], ◌∷◌, ◌++◌, length, map, drop, get_or, refl, sym, ap, ◌∙◌, arith, add-one, append_assoc}
-use Rattle.std.specs.List.{filter, range_with_len, sum}
+use Rattle.std.specs.List.{filter, range_with_len, sum, sum_by}
 use Rattle.std.proofs.Math.Seq.{drop-cons}
-use Rattle.std.proofs.lemmas.Bool.{eq-eqb, ne_eqb}
+use Rattle.std.proofs.lemmas.Bool.{and_from, eq-eqb, ne_eqb}
 use Rattle.std.proofs.lemmas.List.{append-nil, map-append}
 use Rattle.std.proofs.lemmas.List.FromFn.{filter_of_map_range_with_len_more}
 use Rattle.std.proofs.lemmas.List.Sums.{sum_by_push}
-use Rattle.sa_text.specs.Values.{weight_of}
 use Rattle.sa_view.specs.declared.view.View.{View}
+use Rattle.sa_base.specs.Items.{Item}
+use Rattle.sa_plain.specs.Items.{item_weight}
 use Rattle.sa_plain.specs.declared.items.Items.{Items}
 use Rattle.sa_call.specs.declared.call.Call.{Call}
 use Rattle.sa_call.specs.declared.call.Operand.{Operand}
 use Rattle.sa_call.specs.declared.call.Operand.TheVariants as operand
 use Rattle.sa_call.specs.declared.form.Gives.{Gives}
 use Rattle.sa_call.specs.declared.form.Gives.TheVariants as gives
-use Rattle.sa_call.specs.Decls.{Declared, home_of}
-use Rattle.sa_loop.specs.States.{State, World, view_values}
-use Rattle.sa_loop.specs.Takes.{views_read, weight_by, weight_taken}
+use Rattle.sa_call.specs.Decls.{Declared, home_of, kind_of}
+use Rattle.sa_call.specs.Kinds.{fits_kind, lists_fit}
+use Rattle.sa_loop.specs.States.{State, World, view_items}
+use Rattle.sa_loop.specs.Takes.{views_taken, weight_by, weight_taken}
 
 -- an operand and those behind it
 next : (os : List Operand) (k : ℕ) (o : Operand) → o ≡ get_or os k o → k < length os → drop k os ≡ o ∷ drop (k + 1) os
@@ -35,7 +37,7 @@ weight-next decls s d os k o before now one is below whole more same =
     let first = first-weighs decls s d o (drop (k + 1) os) in
     omega arith
 
-pub weight-here : (decls : Declared) (s : State) (d : ℕ) (v : View) → home_of decls v.array ≡ d → weight_of (view_values decls s v) ≡ weight_taken decls s d (operand.View v ∷ [])
+pub weight-here : (decls : Declared) (s : State) (d : ℕ) (v : View) → home_of decls v.array ≡ d → sum_by item_weight (view_items decls s v) ≡ weight_taken decls s d (operand.View v ∷ [])
 weight-here decls s d v same = let e = eq-eqb (home_of decls v.array) d same in rw e (omega arith)
 
 pub weight-elsewhere : (decls : Declared) (s : State) (d : ℕ) (v : View) → home_of decls v.array ≢ d → 0 ≡ weight_taken decls s d (operand.View v ∷ [])
@@ -43,17 +45,36 @@ weight-elsewhere decls s d v apart = let e = ne_eqb (home_of decls v.array) d ap
 
 -- the lists of views
 
-first-read : (decls : Declared) (w : World) (o : Operand) (os : List Operand) → views_read decls w (o ∷ os) ≡ views_read decls w (o ∷ []) ++ views_read decls w os
+first-read : (decls : Declared) (w : World) (o : Operand) (os : List Operand) → views_taken decls w (o ∷ os) ≡ views_taken decls w (o ∷ []) ++ views_taken decls w os
 first-read decls w (operand.View v) os = refl
 first-read decls w (operand.Literal items) os = refl
 
-pub views-next : (decls : Declared) (w : World) (os : List Operand) (k : ℕ) (o : Operand) (before now : List Items) → o ≡ get_or os k o → k < length os → before ++ views_read decls w (drop k os) ≡ views_read decls w os
-    → now ≡ before ++ views_read decls w (o ∷ []) → now ++ views_read decls w (drop (k + 1) os) ≡ views_read decls w os
+pub views-next : (decls : Declared) (w : World) (os : List Operand) (k : ℕ) (o : Operand) (before now : List (List Item)) → o ≡ get_or os k o → k < length os → before ++ views_taken decls w (drop k os) ≡ views_taken decls w os
+    → now ≡ before ++ views_taken decls w (o ∷ []) → now ++ views_taken decls w (drop (k + 1) os) ≡ views_taken decls w os
 views-next decls w os k o before now is below whole more =
-    ap (λ xs. xs ++ views_read decls w (drop (k + 1) os)) more
-    ∙ append_assoc before (views_read decls w (o ∷ [])) (views_read decls w (drop (k + 1) os))
-    ∙ ap (λ xs. before ++ xs) (sym (first-read decls w o (drop (k + 1) os)) ∙ ap (views_read decls w) (sym (next os k o is below)))
+    ap (λ xs. xs ++ views_taken decls w (drop (k + 1) os)) more
+    ∙ append_assoc before (views_taken decls w (o ∷ [])) (views_taken decls w (drop (k + 1) os))
+    ∙ ap (λ xs. before ++ xs) (sym (first-read decls w o (drop (k + 1) os)) ∙ ap (views_taken decls w) (sym (next os k o is below)))
     ∙ whole
+
+-- the lists so far, with whatever fits what is left, fit all
+abbrev pub FitSoFar : Declared → List Operand → ℕ → List Items → Type 0
+FitSoFar decls os k lists = (rest : List Items) → lists_fit decls (drop k os) rest ≡ true → lists_fit decls os (lists ++ rest) ≡ true
+
+pub fit-view : (decls : Declared) (os : List Operand) (k : ℕ) (o : Operand) (v : View) (x : Items) (before now : List Items) → o ≡ get_or os k o → k < length os → o ≡ operand.View v → fits_kind (kind_of decls v.array) x ≡ true
+    → FitSoFar decls os k before → now ≡ before ++ x ∷ [] → FitSoFar decls os (k + 1) now
+fit-view decls os k o v x before now is below viewed fits so_far more rest fit =
+    ap (λ ls. lists_fit decls os (ls ++ rest)) more
+    ∙ ap (lists_fit decls os) (append_assoc before (x ∷ []) rest)
+    ∙ so_far (x ∷ rest)
+    (ap (λ ys. lists_fit decls ys (x ∷ rest)) (next os k o is below ∙ ap (λ y. y ∷ drop (k + 1) os) viewed)
+    ∙ and_from (fits_kind (kind_of decls v.array) x) (lists_fit decls (drop (k + 1) os) rest) fits fit)
+
+pub fit-literal : (decls : Declared) (os : List Operand) (k : ℕ) (o : Operand) (items : Items) (before now : List Items) → o ≡ get_or os k o → k < length os → o ≡ operand.Literal items
+    → FitSoFar decls os k before → now ≡ before → FitSoFar decls os (k + 1) now
+fit-literal decls os k o items before now is below literal so_far same rest fit =
+    ap (λ ls. lists_fit decls os (ls ++ rest)) same
+    ∙ so_far rest (ap (λ ys. lists_fit decls ys rest) (next os k o is below ∙ ap (λ y. y ∷ drop (k + 1) os) literal) ∙ fit)
 
 -- the weights of descriptors
 

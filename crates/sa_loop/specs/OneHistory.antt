@@ -49,7 +49,7 @@ pub record AreEnded (decls : Declared) (tasks : List (List Call)) (lines : List 
 pub record AreOneHistory (decls : Declared) (tasks : List (List Call)) (lines : List (Keyed Act)) (contents : ℕ → Contents) (flags : ℕ → List Bool) : Type 0 where
   pub history : IsHistory (map length tasks) (map line_pair lines) (λ t k. flag_at (flags t) k)
   pub bodies : map line_call lines ≡ bodies_of tasks (map line_pair lines)
-  pub played : IsPlay decls (λ d. (contents d).layout) (map line_call lines) (map line_reply lines)
+  pub played : IsPlay decls contents (map line_call lines) (map line_reply lines)
 
 -- The flags of a task that there is not are none.
 abbrev pub OneHistory : Type 0

@@ -13,18 +13,13 @@ use Rattle.sa_hall.specs.Folds.{Agrees, left_by}
 use Rattle.sa_loop.specs.declared.act.Act.{Act}
 use Rattle.sa_loop.specs.Acts.{act_said}
 use Rattle.sa_loop.specs.Plays.{outcomes_from, world_left}
-use Rattle.sa_loop.specs.Runs.{IsLayout, shown, world_of}
-use Rattle.sa_loop.specs.States.{World}
+use Rattle.sa_loop.specs.Runs.{IsContents, shown, world_of}
 
 abbrev pub line_call : Keyed Act → Call
 line_call l = l.1.deed.body.now
 
 abbrev pub line_reply : Keyed Act → Reply
 line_reply l = l.1.deed.outcome.reply
-
--- the world that the contents of descriptors show
-abbrev pub world_in : (ℕ → Contents) → World
-world_in contents = world_of (λ d. (contents d).layout)
 
 -- the lines that name a descriptor
 abbrev pub chain_at : ℕ → List (Keyed Act) → List (Keyed Act)
@@ -40,13 +35,13 @@ AgreesAt d opening lines = Agrees (λ a. stepped d (act_said a)) (λ a. IsReadHe
 
 -- the replies of lines, and what their chains leave, are those of the play of their calls
 pub record IsPlayed (decls : Declared) (opening : ℕ → Contents) (lines : List (Keyed Act)) : Type 0 where
-  pub replies : map line_reply lines ≡ map (λ (o : Outcome). o.reply) (outcomes_from decls (world_in opening) (map line_call lines))
-  pub states : (d : ℕ) → d < length decls.descrs → shown (contents_left d (opening d) lines).layout ≡ world_left decls (world_in opening) (map line_call lines) d
+  pub replies : map line_reply lines ≡ map (λ (o : Outcome). o.reply) (outcomes_from decls (world_of opening) (map line_call lines))
+  pub states : (d : ℕ) → d < length decls.descrs → shown (contents_left d (opening d) lines) ≡ world_left decls (world_of opening) (map line_call lines) d
 
 -- A list of lines under one declaration is a play of its calls, where the chain of each descriptor in it agrees.
 abbrev pub OneOrder : Type 0
 OneOrder = (decls : Declared) (opening : ℕ → Contents) (lines : List (Keyed Act)) → IsDeclared decls
-    → ((d : ℕ) → d < length decls.descrs → IsLayout decls d (opening d).layout)
+    → ((d : ℕ) → d < length decls.descrs → IsContents decls d (opening d))
     → AllByRecursion (λ (l : Keyed Act). l.1.deed.decls.now ≡ decls) lines
     → ((d : ℕ) → d < length decls.descrs → AgreesAt d (opening d) lines)
     → IsPlayed decls opening lines

@@ -2,10 +2,8 @@
 use Rattle.std.specs.Prelude.{ℕ, ◌+◌, ◌==◌, nat_lt, Bool, List, [], ◌∷◌, ◌++◌, map, sum_by, zip, if◌then◌else◌}
 use Rattle.sa_base.specs.Items.{Item}
 use Rattle.sa_base.specs.Deeds.{Place, Part, Read, Weighed, Counted, Pictured, PictureWeighed, picture_weight}
-use Rattle.sa_text.specs.Values.{item_of, weight_of}
 use Rattle.sa_alloc.specs.Layouts.{stats_of, entry_images, arena_image}
-use Rattle.sa_plain.specs.declared.items.Items.{Items}
-use Rattle.sa_plain.specs.declared.items.Items.TheVariants.{Values}
+use Rattle.sa_plain.specs.Items.{item_weight}
 use Rattle.sa_call.specs.declared.call.Operand.{Operand}
 use Rattle.sa_call.specs.declared.call.Operand.TheVariants as operand
 use Rattle.sa_call.specs.declared.call.Call.{Call}
@@ -18,24 +16,24 @@ use Rattle.sa_call.specs.Forms.{entry}
 use Rattle.sa_call.specs.Limits.{most_weight}
 use Rattle.sa_call.specs.Parts.{Parts, literal_weight}
 use Rattle.sa_call.specs.Told.{homes_of, places_in, places_told}
-use Rattle.sa_loop.specs.States.{State, World, view_values}
+use Rattle.sa_loop.specs.States.{State, World, view_items}
 
 -- the places and the items of the operand views on arrays of a descriptor, not stretched
 abbrev pub items_taken : Declared → State → ℕ → List Operand → List (Place × Item)
 items_taken decls s d [] = []
-items_taken decls s d (operand.View v ∷ os) = (if home_of decls v.array == d then zip (places_in decls v) (map item_of (view_values decls s v)) else []) ++ items_taken decls s d os
+items_taken decls s d (operand.View v ∷ os) = (if home_of decls v.array == d then zip (places_in decls v) (view_items decls s v) else []) ++ items_taken decls s d os
 items_taken decls s d (operand.Literal items ∷ os) = items_taken decls s d os
 
 -- the items of each view of the operands, in order
-abbrev pub views_read : Declared → World → List Operand → List Items
-views_read decls w [] = []
-views_read decls w (operand.View v ∷ os) = Values (view_values decls (w (home_of decls v.array)) v) ∷ views_read decls w os
-views_read decls w (operand.Literal items ∷ os) = views_read decls w os
+abbrev pub views_taken : Declared → World → List Operand → List (List Item)
+views_taken decls w [] = []
+views_taken decls w (operand.View v ∷ os) = view_items decls (w (home_of decls v.array)) v ∷ views_taken decls w os
+views_taken decls w (operand.Literal items ∷ os) = views_taken decls w os
 
 -- what these items weigh
 abbrev pub weight_taken : Declared → State → ℕ → List Operand → ℕ
 weight_taken decls s d [] = 0
-weight_taken decls s d (operand.View v ∷ os) = (if home_of decls v.array == d then weight_of (view_values decls s v) else 0) + weight_taken decls s d os
+weight_taken decls s d (operand.View v ∷ os) = (if home_of decls v.array == d then sum_by item_weight (view_items decls s v) else 0) + weight_taken decls s d os
 weight_taken decls s d (operand.Literal items ∷ os) = weight_taken decls s d os
 
 abbrev pub part_by : Gives → Declared → State → Call → Bool → ℕ → Part

@@ -1,17 +1,19 @@
 -- What the results of a call make of a state: one put after another.
-use Rattle.std.specs.Prelude.{ℕ, ◌+◌, List, [], ◌∷◌, map, zip, slice_set, Option, Some, None}
+use Rattle.std.specs.Prelude.{ℕ, List, [], ◌∷◌, map, zip, slice_set, Option, Some, None, if◌then◌else◌}
 use Rattle.sa_base.specs.Items.{Item}
 use Rattle.sa_base.specs.Deeds.{Place, Write, Put, Tidy, writes_at}
 use Rattle.sa_text.specs.Values.{value_of}
 use Rattle.sa_view.specs.declared.view.View.{View}
-use Rattle.sa_alloc.specs.Layouts.{Layout, first_entry, put}
+use Rattle.sa_alloc.specs.Layouts.{put}
 use Rattle.sa_alloc.specs.Tidies.{tidy}
 use Rattle.sa_plain.specs.Items.{items_of}
+use Rattle.sa_plain.specs.Plains as plains
 use Rattle.sa_plain.specs.declared.items.Items.{Items}
 use Rattle.sa_call.specs.declared.call.Call.{Call}
 use Rattle.sa_call.specs.declared.reply.Reply.{Reply}
 use Rattle.sa_call.specs.Decls.{Declared, home_of}
 use Rattle.sa_call.specs.Told.{places_in}
+use Rattle.sa_hall.specs.Contents.{entry_at, plain_at}
 use Rattle.sa_loop.specs.States.{State, World, array_in}
 use Rattle.sa_loop.specs.Takes.{outcome_in}
 
@@ -28,26 +30,17 @@ writes_told decls None results = []
 writes_told decls (Some out) None = []
 writes_told decls (Some out) (Some results) = (home_of decls out.array, puts_told decls out results) ∷ []
 
--- the number of an entry of a layout
-abbrev pub entry_at : Layout → Place → ℕ
-entry_at l p = first_entry l.lengths p.array + p.place
-
--- a layout after writes, one after another
-abbrev pub layout_written : Layout → List Write → Layout
-layout_written l [] = l
-layout_written l (Put p item ∷ ws) = layout_written (put l (entry_at l p) (value_of item)) ws
-layout_written l (Tidy ∷ ws) = layout_written (tidy l) ws
-
 -- the put of an item at a place of a state
 abbrev pub put_item : State → Place → Item → State
 put_item s p item = record {
-  strings = slice_set s.strings p.array (slice_set (array_in s p.array) p.place (value_of item));
-  layout = put s.layout (entry_at s.layout p) (value_of item);
+  strings = if p.is_strings then slice_set s.strings p.array (slice_set (array_in s p.array) p.place (value_of item)) else s.strings;
+  plains = if p.is_strings then s.plains else slice_set s.plains p.array (plains.put_item (plain_at s.plains p.array) p.place item);
+  layout = if p.is_strings then put s.layout (entry_at s.layout p) (value_of item) else s.layout;
 }
 
 -- a state after a tidy
 abbrev pub tidied : State → State
-tidied s = record { strings = s.strings; layout = tidy s.layout }
+tidied s = record { strings = s.strings; plains = s.plains; layout = tidy s.layout }
 
 -- a state after writes, one after another
 abbrev pub written : State → List Write → State
@@ -55,7 +48,7 @@ written s [] = s
 written s (Put p item ∷ ws) = written (put_item s p item) ws
 written s (Tidy ∷ ws) = written (tidied s) ws
 
--- The effect of a call: its reply, and the world in which its results were put into the arrays and into the layout of its output's home, in order.
+-- The effect of a call: its reply, and the world in which its results were put into the array of its output, and into the layout of that one's home where it is a strings array, in order.
 abbrev pub reply_in : Declared → World → Call → Reply
 reply_in decls w call = (outcome_in decls w call).reply
 

@@ -28,7 +28,7 @@ pub struct Act<'s> {
     outcome: Outcome,
     ghost is_call: { ∥ IsCall decls.now body.now ∥₁ },
     ghost locks_are: { locks ≡ homes_of decls.now body.now },
-    ghost are_operands: { ∥ AreOperands body.now read ∥₁ },
+    ghost are_operands: { ∥ AreOperands decls.now body.now read ∥₁ },
     ghost are_weights: { ∥ AreWeights decls.now body.now read weights ∥₁ },
     ghost are_light: { ∥ AreLight decls.now body.now read weights ∥₁ },
     ghost decided: { outcome ≡ decide decls.now body.now (parts_told decls.now body.now read weights) },
@@ -47,7 +47,7 @@ impl<'s> Act<'s> {
         outcome: Outcome,
     ) -> Act<'s>
         requires call { IsCall decls.now body.now }
-        requires operands { AreOperands body.now read }
+        requires operands { AreOperands decls.now body.now read }
         requires weights { AreWeights decls.now body.now read weights }
         requires light { AreLight decls.now body.now read weights }
         requires decided { outcome ≡ decide decls.now body.now (parts_told decls.now body.now read weights) }

@@ -2,12 +2,13 @@ ghost use Rattle.std.specs.Prelude.{◌≡◌, length, map, false, slice_get};
 ghost use Rattle.std.specs.Option.{option_copied};
 ghost use Rattle.sa_loop.specs.declared.act.Act.{Act};
 ghost use Rattle.sa_loop.specs.Gathers.{act_pair, act_reply};
-ghost use Rattle.sa_loop.specs.Runs.{layout_in};
+ghost use Rattle.sa_loop.specs.Runs.{holds_in};
 
 use crate::act::Act;
 use crate::gathered::Gathered;
 use crate::listed::Listed;
 use sa_alloc::Store;
+use sa_plain::Plain;
 
 impl<'s> Gathered for Listed<'s> {
     ghost declared = { λ l. l.decls.now };
@@ -20,7 +21,7 @@ impl<'s> Gathered for Listed<'s> {
 
     ghost marks = { λ l task call. false };
 
-    ghost layouts = { λ l. layout_in l.stores.items };
+    ghost holds = { λ l. holds_in l.rooms.items };
 
     fn count(&self) -> u64 {
         self.acts.len() as u64
@@ -35,13 +36,23 @@ impl<'s> Gathered for Listed<'s> {
     }
 
     fn store(&self, number: u8) -> Option<&Store> {
-        store_at(self.stores.as_slice(), number as usize)
+        match element_at(self.rooms.as_slice(), number as usize) {
+            Some(room) => Some(&room.store),
+            None => None,
+        }
+    }
+
+    fn plain(&self, number: u8, k: u32) -> Option<&Plain> {
+        match element_at(self.rooms.as_slice(), number as usize) {
+            Some(room) => element_at(room.plains.as_slice(), k as usize),
+            None => None,
+        }
     }
 }
 
-/// The store of a number, if there is one.
-fn store_at(stores: &[Store], number: usize) -> Option<&Store>
-    ensures { option_copied result ≡ slice_get stores.now number }
+/// The element of a number, if there is one.
+fn element_at<T>(elements: &[T], number: usize) -> Option<&T>
+    ensures { option_copied result ≡ slice_get elements.now number }
 {
-    stores.get(number)
+    elements.get(number)
 }

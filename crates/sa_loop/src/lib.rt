@@ -1,9 +1,9 @@
 //! One call on a world: what it takes of its descriptors, what comes of it, and what its results make of
-//! them; and a run's acts with the stores that they leave.
+//! them; and a run's acts with the stores and plain arrays that they leave.
 //!
-//! The definitions are a list machine: a world gives each descriptor the items of its arrays and a
-//! layout. The program holds the layouts alone, in stores; that these show the machine's items, call by
-//! call, is proved here.
+//! The definitions are a list machine: a world gives each descriptor the items of its strings arrays, its
+//! plain arrays and a layout. The program holds the layouts, in stores, and the plain arrays; that these show
+//! the machine's items, call by call, is proved here.
 #![tactic(auto)]
 
 mod act;
@@ -19,6 +19,8 @@ mod opening;
 mod performing;
 mod picture;
 mod places;
+mod plain_taking;
+mod room;
 mod rooms;
 mod run;
 mod taking;
@@ -32,6 +34,7 @@ pub use laws::{calls_leave_rest, layouts_show_items, one_history, one_order, par
 pub use listed::Listed;
 pub use locked::{perform, perform_call};
 pub use places::index_at_home;
+pub use room::Room;
 pub use rooms::Rooms;
 pub use run::{Opened, open_run};
 pub use taking::take;

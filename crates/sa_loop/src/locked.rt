@@ -3,9 +3,10 @@ ghost use Rattle.std.specs.Prelude.{◌≡◌, ◌<◌, ◌≤◌, ℕ, All, Som
 ghost use Rattle.sa_base.specs.Deeds.{writes_at};
 ghost use Rattle.sa_alloc.specs.Layouts.{IsSound};
 ghost use Rattle.sa_plain.specs.Items.{count_of};
-ghost use Rattle.sa_call.specs.Decls.{home_of};
+ghost use Rattle.sa_call.specs.Decls.{home_of, kind_of};
+ghost use Rattle.sa_call.specs.Kinds.{fits_kind};
 ghost use Rattle.sa_call.specs.Told.{homes_of};
-ghost use Rattle.sa_call.specs.Valid.{IsCall, are_values};
+ghost use Rattle.sa_call.specs.Valid.{IsCall};
 ghost use Rattle.sa_journal.specs.Journals.{IsOf};
 ghost use Rattle.sa_journal.specs.Parties.{IsParty};
 ghost use Rattle.sa_journal.specs.declared.party.Party.TheVariants.{Descr, Task};
@@ -25,19 +26,24 @@ use crate::rooms::Rooms;
 use crate::taking::take;
 use sa_alloc::Store;
 use sa_base::{Gate, Memory};
-use sa_call::{Call, Decls, Items, Reply, View, home_of};
-use sa_hall::{Hall, Held, Lent, Pass, Work};
+use sa_call::{Call, Decls, Items, Reply, View, home_of, is_strings_array};
+use sa_hall::{Hall, Held, IndexList, Lent, Pass, Work};
 use sa_journal::{Binding, Deed, Journal};
+use sa_plain::Plain;
 use std::alloc::Global;
 use std::sync::Wait;
 
 impl<'h> Rooms for Lent<'h> {
     ghost has = { λ lent d. is_held (held_at lent d) };
 
-    ghost layouts = { λ lent d. (lent_at lent d).layout };
+    ghost holds = { λ lent d. lent_at lent d };
 
     fn store(&self, number: u8) -> &Store {
         Lent::store(self, number)
+    }
+
+    fn plains(&self, number: u8) -> &[Plain] {
+        Lent::plains(self, number)
     }
 }
 
@@ -104,7 +110,7 @@ pub fn perform<'s, B: Binding, W: Wait, G: Gate>(
     Ok(reply)
 }
 
-/// The work of a call: the plan of its results, where it has some, at the home of its output. What is held
+/// The work of a call: its results, where it has some, at the home of its output. What is held
 /// is as before, but for room.
 fn plan_work<D: Deed, B: Binding>(
     alloc: Global,
@@ -127,7 +133,7 @@ fn plan_work<D: Deed, B: Binding>(
     }
 }
 
-/// The work of results: their plan at the places of the output.
+/// The work of results: values are planned at the places of the output, and other items are put there.
 fn plan_view<D: Deed, B: Binding>(
     alloc: Global,
     decls: &Decls,
@@ -136,9 +142,9 @@ fn plan_view<D: Deed, B: Binding>(
     results: &Items,
 ) -> Result<Work, Memory>
     requires held { is_held (held_at held.old.hold.its (home_of decls.now out.now.array)) ≡ true }
-    requires output { IsViewIn decls.now out.now (contents_at held.old.hold.its (home_of decls.now out.now.array)).layout }
+    requires output { IsViewIn decls.now out.now (contents_at held.old.hold.its (home_of decls.now out.now.array)) }
     requires many { count_of results.now ≡ out.now.count }
-    requires values { are_values results.now ≡ true }
+    requires fits { fits_kind (kind_of decls.now out.now.array) results.now ≡ true }
     ensures its { held.new.hold.its ≡ held.old.hold.its }
     ensures numbers { held.new.numbers ≡ held.old.numbers }
     ensures pass { held.new.pass ≡ held.old.pass }
@@ -150,6 +156,14 @@ fn plan_view<D: Deed, B: Binding>(
     let _sound = held.domain(number).store().lengths();
     let places = places(alloc, out)?;
     let array = index_at_home(decls, out.array);
+    if !is_strings_array(decls, out.array) {
+        return Ok(Work::Plains {
+            number,
+            array,
+            places: IndexList::from_vec(places),
+            items: results.copy(alloc)?,
+        });
+    }
     let Items::Values(values) = results else {
         unreachable!()
     };

@@ -1,37 +1,27 @@
-ghost use Rattle.std.specs.Prelude.{◌≡◌, ◌<◌, [], ℕ, List, length, map, replicate, true, nat_lt, None, IfOk, OnOk, OnErr};
-ghost use Rattle.sa_alloc.specs.StoreValues.{StoreValue};
+ghost use Rattle.std.specs.Prelude.{◌≡◌, ◌<◌, [], ℕ, List, length, map, replicate, true, None, IfOk, OnOk, OnErr};
 ghost use Rattle.sa_call.specs.Decls.{Declared, IsDeclared};
 ghost use Rattle.sa_call.specs.Valid.{IsCall};
 ghost use Rattle.sa_call.specs.Decides.{decide};
+ghost use Rattle.sa_call.specs.Kinds.{output_fits};
 ghost use Rattle.sa_call.specs.Told.{parts_told, AreOperands, AreWeights};
 ghost use Rattle.sa_loop.specs.LastReads.{unknown_output, AreKnown, AreThere};
 ghost use Rattle.sa_loop.specs.States.{World};
 ghost use Rattle.sa_loop.specs.Performs.{IsOneMore, CanPut, IsSoundAt};
-ghost use Rattle.sa_loop.specs.Runs.{shown, world_of, layout_in};
+ghost use Rattle.sa_loop.specs.Runs.{holds_in, room_keeps, shown, world_of};
 ghost use Rattle.sa_base.specs.Deeds.{writes_at};
-ghost use Rattle.sa_loop.specs.Writes.{world_after, writes_told, layout_written};
+ghost use Rattle.sa_hall.specs.Contents.{after_writes};
+ghost use Rattle.sa_loop.specs.Writes.{world_after, writes_told};
 
 use crate::act::Act;
 use crate::last_read::{LastRead, LastReads, place};
 use crate::listed::Listed;
-use crate::opening::opening_stores;
-use crate::rooms::Rooms;
+use crate::opening::opening_rooms;
+use crate::room::Room;
 use crate::taking::take;
 use crate::writing::put_results;
-use sa_alloc::Store;
 use sa_base::Memory;
 use sa_call::{Call, Decls, Items, Operands, Outcome, View, evaluate, home_of};
 use std::alloc::Global;
-
-impl Rooms for Vec<Store> {
-    ghost has = { λ stores d. nat_lt d (length stores.items) };
-
-    ghost layouts = { λ stores. layout_in stores.items };
-
-    fn store(&self, number: u8) -> &Store {
-        &self[number as usize]
-    }
-}
 
 impl<'s> Listed<'s> {
     /// The opening world, with no acts and no marks.
@@ -40,10 +30,10 @@ impl<'s> Listed<'s> {
         ensures acts { IfOk result (λ l. l.acts.items ≡ []) }
     {
         let _ = decls.arrays();
-        let stores = opening_stores(alloc, decls)?;
+        let rooms = opening_rooms(alloc, decls)?;
         Ok(Listed {
             decls,
-            stores,
+            rooms,
             acts: Vec::new(alloc),
             lasts: unread(alloc, decls.arrays().len())?,
         })
@@ -62,18 +52,18 @@ impl<'s> Listed<'s> {
     ) -> Result<(), Memory>
         requires decls { decls.now ≡ self.old.decls.now }
         requires call { IsCall decls.now call.now }
-        ensures act { OnOk result (IsOneMore self.old.decls.now (layout_in self.old.stores.items) call.now task number self.old.acts.items self.new.acts.items) }
-        ensures world { OnOk result ((d : ℕ) → d < length self.old.decls.now.descrs → shown (layout_in self.new.stores.items d) ≡ world_after self.old.decls.now (world_of (layout_in self.old.stores.items)) call.now d) }
+        ensures act { OnOk result (IsOneMore self.old.decls.now (holds_in self.old.rooms.items) call.now task number self.old.acts.items self.new.acts.items) }
+        ensures world { OnOk result ((d : ℕ) → d < length self.old.decls.now.descrs → shown (holds_in self.new.rooms.items d) ≡ world_after self.old.decls.now (world_of (holds_in self.old.rooms.items)) call.now d) }
         ensures decls { self.new.decls.now ≡ self.old.decls.now }
         ensures kept_acts { OnErr result (self.new.acts.items ≡ self.old.acts.items) }
-        ensures kept_stores { OnErr result (map (λ (s : StoreValue). s.contents) self.new.stores.items ≡ map (λ (s : StoreValue). s.contents) self.old.stores.items) }
+        ensures kept_rooms { OnErr result (map room_keeps self.new.rooms.items ≡ map room_keeps self.old.rooms.items) }
     {
         let own = self.decls;
         let _declared = own.arrays();
         self.acts.reserve(1)?;
-        let (read, weights) = take(alloc, own, &self.stores, call, &mut self.lasts)?;
+        let (read, weights) = take(alloc, own, &self.rooms, call, &mut self.lasts)?;
         let outcome = evaluated(alloc, own, call, &read)?;
-        put_outcome(alloc, own, &mut self.stores, &call.out, &outcome.results)?;
+        put_outcome(alloc, own, &mut self.rooms, &call.out, &outcome.results)?;
         forget_output(&mut self.lasts, &call.out);
         remember_output(alloc, &mut self.lasts, &call.out, &outcome.results);
         self.acts
@@ -90,8 +80,9 @@ pub(crate) fn evaluated(
     read: &Operands,
 ) -> Result<Outcome, Memory>
     requires call { IsCall decls.now call.now }
-    requires read { AreOperands call.now read.now }
-    ensures { IfOk result (λ o. (weights : List ℕ) → AreWeights decls.now call.now read.now weights → o ≡ decide decls.now call.now (parts_told decls.now call.now read.now weights)) }
+    requires read { AreOperands decls.now call.now read.now }
+    ensures fits { IfOk result (λ o. output_fits decls.now call.now.out o.results ≡ true) }
+    ensures decided { IfOk result (λ o. (weights : List ℕ) → AreWeights decls.now call.now read.now weights → o ≡ decide decls.now call.now (parts_told decls.now call.now read.now weights)) }
 {
     let mut outcome = evaluate(alloc, decls, call, read)?;
     if let Some(results) = &mut outcome.results {
@@ -100,24 +91,24 @@ pub(crate) fn evaluated(
     Ok(outcome)
 }
 
-/// Puts a call's results, where it has some, into the store of its output's home.
+/// Puts a call's results, where it has some, into the room of its output's home.
 fn put_outcome(
     alloc: Global,
     decls: &Decls,
-    stores: &mut Vec<Store>,
+    rooms: &mut Vec<Room>,
     out: &Option<View>,
     results: &Option<Items>,
 ) -> Result<(), Memory>
-    requires { CanPut decls.now (layout_in stores.old.items) (length stores.old.items) out.now results.now }
-    ensures sound { IsSoundAt decls.now (layout_in stores.old.items) out.now results.now }
-    ensures written { OnOk result ((d : ℕ) → layout_in stores.new.items d ≡ layout_written (layout_in stores.old.items d) (writes_at (writes_told decls.now out.now results.now) d)) }
-    ensures many { length stores.new.items ≡ length stores.old.items }
-    ensures kept { OnErr result (map (λ (s : StoreValue). s.contents) stores.new.items ≡ map (λ (s : StoreValue). s.contents) stores.old.items) }
+    requires { CanPut decls.now (holds_in rooms.old.items) (length rooms.old.items) out.now results.now }
+    ensures sound { IsSoundAt decls.now (holds_in rooms.old.items) out.now results.now }
+    ensures written { OnOk result ((d : ℕ) → holds_in rooms.new.items d ≡ after_writes (holds_in rooms.old.items d) (writes_at (writes_told decls.now out.now results.now) d)) }
+    ensures many { length rooms.new.items ≡ length rooms.old.items }
+    ensures kept { OnErr result (map room_keeps rooms.new.items ≡ map room_keeps rooms.old.items) }
 {
     match (out, results) {
         (Some(out), Some(results)) => {
             let home = home_of(decls, out.array);
-            put_results(alloc, decls, &mut stores[home as usize], out, results)
+            put_results(alloc, decls, &mut rooms[home as usize], out, results)
         }
         _ => Ok(()),
     }
@@ -143,7 +134,7 @@ fn forget_output(lasts: &mut LastReads, out: &Option<View>)
     }
 }
 
-/// Notes that the array of an output has these results at its places.
+/// Notes that the strings array of an output has these results at its places.
 fn remember_output(
     alloc: Global,
     lasts: &mut LastReads,

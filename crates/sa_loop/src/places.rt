@@ -1,33 +1,41 @@
 ghost use Rattle.std.specs.Prelude.{◌≡◌, ◌<◌, ◌^◌, length, count_by, IfOk, true};
 ghost use Rattle.std.specs.List.{list_any};
-ghost use Rattle.sa_call.specs.Told.{is_at, index_at_home, is_named, operand_is_at, output_is_at};
+ghost use Rattle.sa_call.specs.Told.{is_among, index_at_home, is_named, operand_is_at, output_is_at};
 ghost use Rattle.sa_view.specs.Views.{fits_some, places_of};
 
 use sa_base::Memory;
-use sa_call::{ArrayDecl, Call, Decls, Operand, View, home_of};
+use sa_call::{ArrayDecl, Call, Decls, Operand, View, home_of, is_strings_array};
 use std::alloc::Global;
 
-/// The number of an array among those of its home.
+/// The number of an array among the strings arrays, or the plain ones, of its home.
 pub fn index_at_home(decls: &Decls, array: u32) -> u32
     requires { array < length decls.now.arrays }
     ensures { result ≡ index_at_home decls.now array }
 {
     let arrays = decls.arrays();
-    count_at(&arrays[..array as usize], arrays[array as usize].home)
+    let strings = is_strings_array(decls, array);
+    count_among(&arrays[..array as usize], strings, home_of(decls, array))
 }
 
-/// How many arrays have this home.
-fn count_at(arrays: &[ArrayDecl], home: u8) -> u32
+/// How many strings arrays, or how many plain ones, have this home.
+fn count_among(arrays: &[ArrayDecl], strings: bool, home: u8) -> u32
     requires { length arrays.now < 2 ^ 32 }
-    ensures { result ≡ count_by (is_at home) arrays.now }
+    ensures { result ≡ count_by (is_among strings home) arrays.now }
 {
     let mut count = 0u32;
     for array in arrays {
-        if array.home == home {
+        if is_among(array, strings, home) {
             count += 1;
         }
     }
     count
+}
+
+/// Whether an array has this home, and is a strings array or else a plain one.
+fn is_among(array: &ArrayDecl, strings: bool, home: u8) -> bool
+    ensures { result ≡ is_among strings home array.now }
+{
+    array.home == home && array.kind.is_strings() == strings
 }
 
 /// Whether a call is on the descriptor of this number: a view of it, its output, or its statistics or

@@ -10,7 +10,7 @@ ghost use Rattle.sa_hall.specs.Passes.{PassValue, is_task};
 ghost use Rattle.sa_loop.specs.Locked.{shape_in};
 ghost use Rattle.sa_loop.specs.Openings.{shapes_of, AreNewFrom, AreOpeningPasses};
 
-use crate::opening::lengths_of;
+use crate::opening::{lengths_of, plains_of};
 use sa_base::Memory;
 use sa_call::Decls;
 use sa_hall::{Domain, Hall, Pass};
@@ -95,7 +95,8 @@ fn opening_domain<D: Deed>(
         unreachable!()
     };
     let lengths = lengths_of(alloc, decls, number as usize)?;
-    Domain::new(alloc, chain, lengths.as_slice(), &[])
+    let kinds = plains_of(alloc, decls, number as usize)?;
+    Domain::new(alloc, chain, lengths.as_slice(), kinds.as_slice())
 }
 
 /// A pass for each task, with the chain of its number and no mark.

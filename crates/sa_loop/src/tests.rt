@@ -3,7 +3,8 @@ ghost use Rattle.std.specs.List.{AllByRecursion};
 ghost use Rattle.sa_text.specs.Values.{IsTextValue};
 ghost use Rattle.sa_plain.specs.Items.{values_of};
 ghost use Rattle.sa_call.specs.Forms.{descr_of, entry};
-ghost use Rattle.sa_call.specs.Valid.{IsCall, are_values, is_view_of};
+ghost use Rattle.sa_call.specs.Kinds.{are_within, fits_kind, is_same_kind};
+ghost use Rattle.sa_call.specs.Valid.{IsCall, is_view_of};
 ghost use Rattle.sa_call.specs.declared.form.Into.TheVariants.{Never};
 ghost use Rattle.sa_call.specs.declared.form.Sort.TheVariants.{Descr as DescrSort};
 
@@ -11,9 +12,11 @@ use super::*;
 use sa_alloc::Seen;
 use sa_base::Memory;
 use sa_call::{
-    ArrayDecl, Call, Decls, Items, Kind, Op, Operand, OperandList, Operands, Reply, ValueList, View,
+    ArrayDecl, Call, Decls, IntList, Items, Kind, Op, Operand, OperandList, Operands, PlainKind,
+    Reply, ValueList, View, kind_of,
 };
 use sa_descr::{Descr, NaRule};
+use sa_plain::{UnitList, UnitLists, push_items};
 use sa_text::{Text, Value};
 use std::alloc::Global;
 use std::process::Abort;
@@ -21,17 +24,25 @@ use std::test::Fail;
 
 const TEXT_16: &str = "abcdefghijklmnop";
 
-/// Two descriptors, of which the first has no missing values. Arrays 0 and 2 are of the first, and array 1
-/// is of the second.
+/// Two descriptors, of which the first has no missing values. Arrays 0 and 2 are strings arrays of the first,
+/// and array 1 of the second; array 3 is one of numbers of the first, array 4 one of texts of three units of
+/// the second.
 fn declared(alloc: Global) -> Result<Decls, Memory> {
     let descr = |na| Descr { na, coerce: false };
-    let array = |home| ArrayDecl {
+    let array = |home, kind| ArrayDecl {
         home,
-        kind: Kind::Str,
+        kind,
         len: 20,
     };
     let descrs = vec![in alloc; descr(NaRule::Absent), descr(NaRule::Nan)]?;
-    Ok(Decls::new(descrs, vec![in alloc; array(0), array(1), array(0)]?))
+    let arrays = vec![in alloc;
+        array(0, Kind::Str),
+        array(1, Kind::Str),
+        array(0, Kind::Str),
+        array(0, Kind::Plain(PlainKind::Int)),
+        array(1, Kind::Plain(PlainKind::Fixed(3))),
+    ]?;
+    Ok(Decls::new(descrs, arrays))
 }
 
 /// So many places of an array, from a start on.
@@ -46,8 +57,7 @@ fn view(array: u32, start: u32, count: u32, step: i32) -> View {
 
 /// These texts; none stands for a missing value.
 fn items(alloc: Global, texts: &[Option<&str>]) -> Result<Items, Fail>
-    ensures texts { IfOk result (λ items. AllByRecursion IsTextValue (values_of items)) }
-    ensures values { IfOk result (λ items. are_values items ≡ true) }
+    ensures { IfOk result (λ items. AllByRecursion IsTextValue (values_of items)) }
 {
     let mut values = ValueList::new(alloc);
     for text in texts {
@@ -68,8 +78,7 @@ fn value(alloc: Global, text: Option<&str>) -> Result<Value, Fail>
 
 /// The longest text that there may be.
 fn longest(alloc: Global) -> Result<Items, Fail>
-    ensures texts { IfOk result (λ items. AllByRecursion IsTextValue (values_of items)) }
-    ensures values { IfOk result (λ items. are_values items ≡ true) }
+    ensures { IfOk result (λ items. AllByRecursion IsTextValue (values_of items)) }
 {
     let text = str::from_utf8(&[b'x'; 65_536])?;
     items(alloc, &[Some(text)])
@@ -92,14 +101,47 @@ fn fit(count: usize, places: u32) -> bool
     count == 1 || count == places as usize
 }
 
+/// Whether an array of this kind may hold these items, which are values, numbers or units.
+fn may_hold(kind: Kind, items: &Items) -> bool
+    ensures { result ≡ true → fits_kind kind items.now ≡ true }
+{
+    match (kind, items) {
+        (Kind::Str, Items::Values(_)) => true,
+        (Kind::Plain(PlainKind::Int), Items::Ints(_)) => true,
+        (Kind::Plain(PlainKind::Fixed(width)), Items::Units(rows)) => {
+            are_within(width, rows.as_slice())
+        }
+        _ => false,
+    }
+}
+
+/// Whether no text is wider.
+fn are_within(width: u16, rows: &[UnitList]) -> bool
+    ensures { result ≡ are_within width rows.now }
+{
+    rows.iter().all(|row| row.len() <= width as usize)
+}
+
+/// Whether two kinds are the same, of those that the arrays have.
+fn is_same(a: Kind, b: Kind) -> bool
+    ensures { result ≡ true → is_same_kind a b ≡ true }
+{
+    match (a, b) {
+        (Kind::Str, Kind::Str) => true,
+        (Kind::Plain(PlainKind::Int), Kind::Plain(PlainKind::Int)) => true,
+        (Kind::Plain(PlainKind::Fixed(v)), Kind::Plain(PlainKind::Fixed(w))) => v == w,
+        _ => false,
+    }
+}
+
 /// The call that sets places to items.
 fn set(rt: &impl Abort, alloc: Global, decls: &Decls, out: View, items: Items) -> Result<Call, Fail>
     requires texts { AllByRecursion IsTextValue (values_of items) }
-    requires values { are_values items ≡ true }
     ensures { IfOk result (IsCall decls.now) }
 {
     let count = items.len();
     assert!(rt; is_view_of(decls, &out) && fit(count, out.count) && count >= 1 && count <= 8192);
+    assert!(rt; may_hold(kind_of(decls, out.array), &items));
     Ok(Call {
         op: Op::Set,
         operands: OperandList::from_vec(vec![in alloc; Operand::Literal(items)]?),
@@ -114,6 +156,7 @@ fn copy(rt: &impl Abort, alloc: Global, decls: &Decls, from: View, out: View) ->
     assert!(rt;
         is_view_of(decls, &from) && is_view_of(decls, &out) && fit(from.count as usize, out.count)
     );
+    assert!(rt; is_same(kind_of(decls, from.array), kind_of(decls, out.array)));
     Ok(Call {
         op: Op::Copy,
         operands: OperandList::from_vec(vec![in alloc; Operand::View(from)]?),
@@ -298,11 +341,56 @@ fn statistics_and_pictures_are_of_their_descriptor(rt: HostRuntime) -> Result<()
     Ok(())
 }
 
+/// What is written of the items that an act shows.
+fn shown_bytes(alloc: Global, act: Option<&Act<'_>>) -> Result<Vec<u8>, Memory> {
+    let mut out = Vec::new(alloc);
+    if let Some(act) = act {
+        if let Reply::Shown(items) = &act.outcome().reply {
+            push_items(&mut out, items)?;
+        }
+    }
+    Ok(out)
+}
+
+#[test]
+fn plain_arrays_hold_what_is_put(rt: HostRuntime) -> Result<(), Fail> {
+    let alloc = rt.alloc();
+    let decls = declared(alloc)?;
+    let numbers = Items::Ints(IntList::from_slice(alloc, &[7, -8])?);
+    let mut units = UnitLists::new(alloc);
+    units.push(UnitList::from_slice(alloc, &[0xe9])?)?;
+    let calls = [
+        set(&rt, alloc, &decls, view(3, 0, 2, 2), numbers)?,
+        copy(&rt, alloc, &decls, view(3, 0, 3, 1), view(3, 1, 3, 1))?,
+        show(&rt, alloc, &decls, view(3, 3, 4, -1))?,
+        set(&rt, alloc, &decls, view(4, 1, 2, 1), Items::Units(units))?,
+        show(&rt, alloc, &decls, view(4, 0, 3, 1))?,
+    ];
+    let run = performed(alloc, &decls, &calls)?;
+    for (k, bytes) in [
+        (2, b"(-8,0,7,7)".as_slice()),
+        (4, b"(units:0.0.0,units:e9.0.0,units:e9.0.0)"),
+    ] {
+        assert_eq!(rt;
+            shown_bytes(alloc, run.act(k))?.as_slice(),
+            bytes,
+            "act {k}"
+        );
+    }
+    assert!(rt;
+        run.plain(0, 0)
+            .is_some_and(|plain| plain.kind() == PlainKind::Int)
+    );
+    assert!(rt; run.plain(0, 1).is_none() && run.plain(2, 0).is_none());
+    has_texts(&rt, &run, 0, 0, &["", ""]);
+    Ok(())
+}
+
 #[test]
 fn arrays_are_numbered_at_their_home(rt: HostRuntime) -> Result<(), Fail> {
     let decls = declared(rt.alloc())?;
-    assert_eq!(rt; decls.arrays().len(), 3);
-    for (array, index) in [(0, 0), (1, 0), (2, 1)] {
+    assert_eq!(rt; decls.arrays().len(), 5);
+    for (array, index) in [(0, 0), (1, 0), (2, 1), (3, 0), (4, 0)] {
         assert_eq!(rt; index_at_home(&decls, array), index, "array {array}");
     }
     Ok(())

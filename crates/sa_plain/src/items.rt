@@ -1,9 +1,10 @@
-ghost use Rattle.std.specs.Prelude.{◌≡◌, ◌==◌, ◌*◌, ◌≤◌, IfOk, option_map};
-ghost use Rattle.sa_plain.specs.Items.{count_of, items_weight, values_in};
+ghost use Rattle.std.specs.Prelude.{◌≡◌, ◌==◌, ◌*◌, ◌≤◌, ◌<◌, slice_index_or, IfOk, option_map};
+ghost use Rattle.sa_base.specs.Items.{MissingItem};
+ghost use Rattle.sa_plain.specs.Items.{count_of, item_weight, items_of, items_weight, values_in};
 
 use crate::rows::Rows;
 use sa_base::{Memory, Sequence};
-use sa_text::ValueList;
+use sa_text::{ValueList, value_weight};
 use std::alloc::Global;
 
 /// What an item weighs beside the bytes of its text.
@@ -18,13 +19,13 @@ pub type FlagList = Sequence<bool>;
 /// A list of bytes.
 pub type ByteList = Sequence<u8>;
 
-/// A list of byte texts, each of at most 256 bytes.
+/// A list of byte texts, each of at most 257 bytes.
 pub type ByteLists = Rows<u8>;
 
 /// A list of units: numbers of 32 bits, which need not be Unicode scalar values.
 pub type UnitList = Sequence<u32>;
 
-/// A list of unicode texts, each of at most 256 units.
+/// A list of unicode texts, each of at most 257 units.
 pub type UnitLists = Rows<u32>;
 
 /// Items of one kind: those of an operand, of a result, or of an array.
@@ -89,6 +90,24 @@ impl Items {
             Items::Flags(flags) => ITEM_WEIGHT * flags.len() as u64,
             Items::Bytes(rows) => ITEM_WEIGHT * rows.len() as u64 + rows.count_cells(),
             Items::Units(rows) => ITEM_WEIGHT * rows.len() as u64 + 4 * rows.count_cells(),
+        }
+    }
+
+    /// The weight of the item at a place: 16, and the bytes of its text.
+    pub fn weight_at(&self, k: usize) -> u64
+        requires there { k < count_of self.now }
+        ensures weight { result ≡ item_weight (slice_index_or (items_of self.now) k MissingItem) }
+        ensures most { result ≤ 65552 }
+    {
+        match self {
+            Items::Values(values) => match values.get(k) {
+                Some(value) => value_weight(value),
+                None => unreachable!(),
+            },
+            Items::Ints(_numbers) => ITEM_WEIGHT,
+            Items::Flags(_flags) => ITEM_WEIGHT,
+            Items::Bytes(rows) => ITEM_WEIGHT + rows.len_at(k),
+            Items::Units(rows) => ITEM_WEIGHT + 4 * rows.len_at(k),
         }
     }
 

@@ -9,6 +9,7 @@ mod kind;
 mod plain;
 mod puts;
 mod rows;
+mod spreads;
 mod written;
 
 pub use hex::push_hex;

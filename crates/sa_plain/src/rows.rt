@@ -1,12 +1,12 @@
-ghost use Rattle.std.specs.Prelude.{◌≡◌, ◌++◌, ◌∷◌, ◌==◌, ◌≤◌, [], ◌*◌, length, slice_get, sum_by, IfOk, IfErr, OnOk, OnErr};
+ghost use Rattle.std.specs.Prelude.{◌≡◌, ◌++◌, ◌∷◌, ◌==◌, ◌≤◌, ◌<◌, [], ◌*◌, length, slice_get, slice_index_or, sum_by, IfOk, IfErr, OnOk, OnErr};
 ghost use Rattle.std.specs.Option.{option_copied};
-ghost use Rattle.sa_plain.specs.Widths.{most_width, AreNarrow};
+ghost use Rattle.sa_plain.specs.Widths.{most_row, AreNarrow};
 
 use sa_base::{Memory, Sequence};
 use std::alloc::Global;
 use std::marker::Model;
 
-/// A list of lists of at most 256 cells each. Contracts see the lists, in order.
+/// A list of lists of at most 257 cells each. Contracts see the lists, in order.
 #[derive(Debug, Drop)]
 pub struct Rows<T> {
     rows: Vec<Sequence<T>>,
@@ -55,7 +55,7 @@ impl<T> Rows<T> {
         self.rows.get(k)
     }
 
-    /// The lists, in order; each has at most 256 cells.
+    /// The lists, in order; each has at most 257 cells.
     pub fn as_slice(&self) -> &[Sequence<T>]
         ensures same { result.now ≡ self.now }
         ensures narrow { AreNarrow self.now }
@@ -63,9 +63,18 @@ impl<T> Rows<T> {
         self.rows.as_slice()
     }
 
+    /// How many cells the list at a place has.
+    pub(crate) fn len_at(&self, k: usize) -> u64
+        requires { k < length self.now }
+        ensures len { result ≡ length (slice_index_or self.now k []) }
+        ensures few { result ≤ most_row }
+    {
+        self.rows[k].len() as u64
+    }
+
     /// Puts a list at the end. Where there is no memory the lists are as before and the list comes back.
     pub fn push(&mut self, row: Sequence<T>) -> Result<(), (Memory, Sequence<T>)>
-        requires { length row ≤ most_width }
+        requires { length row ≤ most_row }
         ensures ok { OnOk result (self.new ≡ self.old ++ row ∷ []) }
         ensures err { OnErr result (self.new ≡ self.old) }
         ensures returned { IfErr result (λ e. e.1 ≡ row) }
@@ -77,7 +86,7 @@ impl<T> Rows<T> {
     pub fn count_cells(&self) -> u64
         requires { length self.now ≤ 8192 }
         ensures count { result ≡ sum_by (λ row. length row) self.now }
-        ensures most { result ≤ 256 * length self.now }
+        ensures most { result ≤ 257 * length self.now }
     {
         let mut count = 0;
         for row in self.rows.as_slice() {

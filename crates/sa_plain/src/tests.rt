@@ -1,3 +1,5 @@
+ghost use Rattle.std.specs.Prelude.{◌≤◌};
+
 use super::*;
 use sa_base::Memory;
 use sa_text::{Text, Value};
@@ -109,6 +111,43 @@ fn flags_bytes_and_units_are_weighed_and_written(rt: HostRuntime) -> Result<(), 
         assert!(rt; items.values().is_none() && items.len() == *count && items.len() <= 8192);
         assert_eq!(rt; items.weight(), *weight);
         assert_eq!(rt; written(alloc, &items.copy(alloc)?)?.as_slice(), *bytes);
+    }
+    Ok(())
+}
+
+/// What is written of items that are stretched to a count and widened to a width.
+fn held(alloc: Global, items: &Items, count: usize, width: u16) -> Result<Vec<u8>, Memory>
+    requires { width ≤ 256 }
+{
+    let wide = items.stretched(alloc, count)?.widened(alloc, width)?;
+    written(alloc, &wide)
+}
+
+#[test]
+fn items_are_stretched_and_widened(rt: HostRuntime) -> Result<(), Fail> {
+    let alloc = rt.alloc();
+    let bytes = held(alloc, &byte_texts(alloc, &[&[0xff]])?, 2, 3)?;
+    assert_eq!(rt; bytes.as_slice(), b"(hex:ff0000,hex:ff0000)".as_slice());
+    let units = held(alloc, &unit_texts(alloc, &[&[0x68, 0xe9], &[]])?, 5, 1)?;
+    assert_eq!(rt; units.as_slice(), b"(units:68.e9,units:0)".as_slice());
+    let one = Items::Ints(IntList::from_slice(alloc, &[-3])?);
+    assert_eq!(rt;
+        held(alloc, &one, 3, 8)?.as_slice(),
+        b"(-3,-3,-3)".as_slice()
+    );
+    Ok(())
+}
+
+#[test]
+fn each_item_has_a_weight(rt: HostRuntime) -> Result<(), Fail> {
+    let alloc = rt.alloc();
+    let texts = two_items(alloc)?;
+    if texts.len() == 2 {
+        assert!(rt; texts.weight_at(0) == 16 && texts.weight_at(1) == 19);
+    }
+    let units = unit_texts(alloc, &[&[0x68, 0xe9]])?;
+    if units.len() == 1 {
+        assert_eq!(rt; units.weight_at(0), 24);
     }
     Ok(())
 }

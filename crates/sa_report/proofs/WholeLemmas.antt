@@ -2,7 +2,7 @@
 use Rattle.std.proofs.Common.{◌≡◌, ℕ, Bool, List, [], ◌∷◌, ◌++◌, codes, sym, ap, ◌∙◌, subst, append_assoc}
 use Rattle.std.specs.List.{flat_map}
 use Rattle.sa_base.specs.declared.stats.Stats.{Stats}
-use Rattle.sa_alloc.specs.Layouts.{Layout}
+use Rattle.sa_hall.specs.Contents.{Contents}
 use Rattle.sa_lines.specs.Lines.{line}
 use Rattle.sa_plain.specs.declared.items.Items.{Items}
 use Rattle.sa_call.specs.declared.call.Call.{Call}
@@ -43,14 +43,14 @@ report-written script history marks replies contents stats o a b c d e f g h i e
     ∙ sym (report-parts script history marks replies contents stats)
 
 -- the report of what was gathered is that of the play
-pub report-alike : (script : ScriptValue) (decls : Declared) (pairs : List (ℕ × ℕ)) (marks : ℕ → ℕ → Bool) (layouts : ℕ → Layout) (bodies : List Call) (replies : List Reply)
-    → decls ≡ script.decls → bodies ≡ bodies_of script.tasks pairs → IsPlay decls layouts bodies replies → IsDeclared script.decls
-    → report_of script pairs marks replies (contents_of script.decls (world_of layouts)) (stats_in script.decls (world_of layouts)) ≡ report_of_play script pairs marks
-report-alike script decls pairs marks layouts bodies replies same calls played declared =
+pub report-alike : (script : ScriptValue) (decls : Declared) (pairs : List (ℕ × ℕ)) (marks : ℕ → ℕ → Bool) (holds : ℕ → Contents) (bodies : List Call) (replies : List Reply)
+    → decls ≡ script.decls → bodies ≡ bodies_of script.tasks pairs → IsPlay decls holds bodies replies → IsDeclared script.decls
+    → report_of script pairs marks replies (contents_of script.decls (world_of holds)) (stats_in script.decls (world_of holds)) ≡ report_of_play script pairs marks
+report-alike script decls pairs marks holds bodies replies same calls played declared =
     let world = play_world script.decls (bodies_of script.tasks pairs) in
-    let play : IsPlay script.decls layouts (bodies_of script.tasks pairs) replies =
-    subst (λ (cs : List Call). IsPlay script.decls layouts cs replies) calls (subst (λ (d : Declared). IsPlay d layouts bodies replies) same played) in
+    let play : IsPlay script.decls holds (bodies_of script.tasks pairs) replies =
+    subst (λ (cs : List Call). IsPlay script.decls holds cs replies) calls (subst (λ (d : Declared). IsPlay d holds bodies replies) same played) in
     let answers : List Reply = play_replies script.decls (bodies_of script.tasks pairs) in
-    ap (λ (rs : List Reply). report_of script pairs marks rs (contents_of script.decls (world_of layouts)) (stats_in script.decls (world_of layouts))) play.answers
-    ∙ (ap (λ (cs : List Items). report_of script pairs marks answers cs (stats_in script.decls (world_of layouts))) (contents-alike script.decls layouts world declared play.states)
-    ∙ ap (λ (ss : List Stats). report_of script pairs marks answers (contents_of script.decls world) ss) (stats-alike script.decls layouts world play.states))
+    ap (λ (rs : List Reply). report_of script pairs marks rs (contents_of script.decls (world_of holds)) (stats_in script.decls (world_of holds))) play.answers
+    ∙ (ap (λ (cs : List Items). report_of script pairs marks answers cs (stats_in script.decls (world_of holds))) (contents-alike script.decls holds world declared play.states)
+    ∙ ap (λ (ss : List Stats). report_of script pairs marks answers (contents_of script.decls world) ss) (stats-alike script.decls holds world play.states))

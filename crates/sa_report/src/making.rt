@@ -29,7 +29,7 @@ pub fn report<H: Gathered>(alloc: Global, script: &Script, from: &H) -> Result<V
     push_marks(&mut out, tasks, from)?;
     push_bytes(&mut out, b"\n")?;
     push_tasks(alloc, &mut out, tasks, from)?;
-    push_arrays(&mut out, script, from)?;
+    push_arrays(alloc, &mut out, script, from)?;
     push_all_stats(&mut out, script, from)?;
     push_bytes(&mut out, b"end\n")?;
     Ok(out)

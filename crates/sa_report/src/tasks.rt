@@ -15,7 +15,7 @@ use std::alloc::Global;
 /// Writes the history's pairs, each behind a space.
 pub fn push_history<H: Gathered>(out: &mut Vec<u8>, from: &H) -> Result<(), Memory>
     ensures written { OnOk result (out.new.items ≡ out.old.items ++ flat_map spaced_pair (H.pairs from.now)) }
-    ensures played { IsPlay (H.declared from.now) (H.layouts from.now) (H.bodies from.now) (H.replies from.now) }
+    ensures played { IsPlay (H.declared from.now) (H.holds from.now) (H.bodies from.now) (H.replies from.now) }
 {
     for k in 0..from.count() {
         let Some(act) = from.act(k) else {

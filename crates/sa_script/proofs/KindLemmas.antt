@@ -8,6 +8,7 @@ use Rattle.sa_text.specs.Values.{is_missing, stretched}
 use Rattle.sa_call.specs.declared.call.Op.{Op}
 use Rattle.sa_call.specs.declared.call.Operand.{Operand}
 use Rattle.sa_call.specs.declared.form.Sort.{Sort}
+use Rattle.sa_call.specs.Decls.{Declared}
 use Rattle.sa_call.specs.Forms.{entry, is_operand}
 use Rattle.sa_call.specs.Valid.{all_are, is_kind, kinds_fit}
 use Rattle.sa_script.specs.Kinds.{kinds_read}
@@ -17,51 +18,6 @@ abbrev pub is_read : Option (List Operand) → Bool
 is_read None = false
 is_read (Some []) = true
 is_read (Some (o ∷ os)) = false
-
-abbrev pub kinds_then : List Sort → Option (List Operand) → Option (List Operand)
-kinds_then ss None = None
-kinds_then ss (Some os) = kinds_read ss os
-
-kinds_none : (ss : List Sort) → kinds_read ss [] ≡ Some []
-kinds_none [] = refl
-kinds_none (s ∷ ss) = refl
-
-append-cases : (ts : List Sort) (b k : Bool) (before short whole longer : Option (List Operand)) → short ≡ kinds_then ts before → longer ≡ kinds_then ts whole
-    → cond b (cond k short None) longer ≡ kinds_then ts (cond b (cond k before None) whole)
-append-cases ts true true before short whole longer e f = e
-append-cases ts true false before short whole longer e f = refl
-append-cases ts false k before short whole longer e f = f
-
-pub kinds_read-append : (ss ts : List Sort) (os : List Operand) → kinds_read (ss ++ ts) os ≡ kinds_then ts (kinds_read ss os)
-kinds_read-append [] ts os = refl
-kinds_read-append (s ∷ ss) ts [] = sym (kinds_none ts)
-kinds_read-append (s ∷ ss) ts (o ∷ os) =
-    append-cases ts (is_operand s) (is_kind s o) (kinds_read ss os) (kinds_read (ss ++ ts) os) (kinds_read ss (o ∷ os)) (kinds_read (ss ++ ts) (o ∷ os)) (kinds_read-append ss ts os) (kinds_read-append ss ts (o ∷ os))
-
-kind-case : (k b : Bool) (read : Option (List Operand)) → b ≡ is_read read → (k && b) ≡ is_read (cond k read None)
-kind-case true b read e = e
-kind-case false b read e = refl
-
-all_kinds : (ss : List Sort) (os : List Operand) → all_are is_kind (take (length os) (filter is_operand ss)) os ≡ is_read (kinds_read ss os)
-all_kinds [] [] = refl
-all_kinds [] (o ∷ os) = refl
-all_kinds (s ∷ ss) [] = refl
-all_kinds (s ∷ ss) (o ∷ os) = go (is_operand s) (all_kinds ss os) (all_kinds ss (o ∷ os))
-  where
-    go : (b : Bool) → all_are is_kind (take (length os) (filter is_operand ss)) os ≡ is_read (kinds_read ss os) → all_are is_kind (take (length (o ∷ os)) (filter is_operand ss)) (o ∷ os) ≡ is_read (kinds_read ss (o ∷ os))
-        → all_are is_kind (take (length (o ∷ os)) (cond b (s ∷ filter is_operand ss) (filter is_operand ss))) (o ∷ os) ≡ is_read (cond b (cond (is_kind s o) (kinds_read ss os) None) (kinds_read ss (o ∷ os)))
-    go true e f = kind-case (is_kind s o) (all_are is_kind (take (length os) (filter is_operand ss)) os) (kinds_read ss os) e
-    go false e f = f
-
-pub kinds_fit-is : (o : Op) (os : List Operand) → kinds_fit o os ≡ is_read (kinds_then (entry o).may (kinds_read (entry o).needs os))
-kinds_fit-is o os = all_kinds ((entry o).needs ++ (entry o).may) os ∙ ap is_read (kinds_read-append (entry o).needs (entry o).may os)
-
--- by what is left behind the operands that are needed, and behind those that may be left out
-pub kinds-told : (o : Op) (os rest : List Operand) (read : Option (List Operand)) → Some rest ≡ kinds_read (entry o).needs os → read ≡ kinds_read (entry o).may rest → is_read read ≡ kinds_fit o os
-kinds-told o os rest read first then = ap is_read (then ∙ ap (kinds_then (entry o).may) first) ∙ sym (kinds_fit-is o os)
-
-pub kinds-none : (o : Op) (os : List Operand) → None ≡ kinds_read (entry o).needs os → false ≡ kinds_fit o os
-kinds-none o os none = ap (λ read. is_read (kinds_then (entry o).may read)) none ∙ sym (kinds_fit-is o os)
 
 pub read-left : (os : List Operand) → is_read (Some os) ≡ eqb (length os) 0
 read-left [] = refl
@@ -86,17 +42,54 @@ any_stretched (v ∷ vs) [] same some = cc
 any_stretched (v ∷ vs) (h ∷ []) same some = ap (list_any is_missing) same ∙ any_repeated (length vs) h ∙ sym (or-none (is_missing h))
 any_stretched (v ∷ vs) (h ∷ g ∷ hs) same some = ap (list_any is_missing) same
 
--- one sort after another
-pub kinds_skip : (ss : List Sort) (k : ℕ) (d : Sort) (os : List Operand) → k < length ss → is_operand (get_or ss k d) ≡ false → kinds_read (drop (k + 1) ss) os ≡ kinds_read (drop k ss) os
-kinds_skip ss k d [] below other = kinds_none (drop (k + 1) ss) ∙ sym (kinds_none (drop k ss))
-kinds_skip ss k d (o ∷ os) below other = sym (at_drop_more (λ (l : List Sort). kinds_read l (o ∷ os)) ss k d below ∙ rw other refl)
+-- under these declarations
+module _ (d : Declared) where
+  abbrev pub kinds_then : List Sort → Option (List Operand) → Option (List Operand)
+  kinds_then ss None = None
+  kinds_then ss (Some os) = kinds_read d ss os
 
-pub kinds_ended : (ss : List Sort) (os : List Operand) → os ≡ [] → kinds_read ss os ≡ Some os
-kinds_ended ss os none = ap (kinds_read ss) none ∙ kinds_none ss ∙ ap Some (sym none)
+  kinds_none : (ss : List Sort) → kinds_read d ss [] ≡ Some []
+  kinds_none [] = refl
+  kinds_none (s ∷ ss) = refl
 
-pub kinds_wrong : (ss : List Sort) (k : ℕ) (d : Sort) (os rest : List Operand) (o : Operand) → k < length ss → os ≡ o ∷ rest → is_operand (get_or ss k d) ≡ true → is_kind (get_or ss k d) o ≡ false → kinds_read (drop k ss) os ≡ None
-kinds_wrong ss k d os rest o below cut stands wrong = at_drop_more (λ (l : List Sort). kinds_read l os) ss k d below ∙ rw (cut, stands, wrong) refl
+  append-cases : (ts : List Sort) (b k : Bool) (before short whole longer : Option (List Operand)) → short ≡ kinds_then ts before → longer ≡ kinds_then ts whole
+      → cond b (cond k short None) longer ≡ kinds_then ts (cond b (cond k before None) whole)
+  append-cases ts true true before short whole longer e f = e
+  append-cases ts true false before short whole longer e f = refl
+  append-cases ts false k before short whole longer e f = f
 
-pub kinds_more : (ss : List Sort) (k : ℕ) (d : Sort) (os rest : List Operand) (o : Operand) → k < length ss → os ≡ o ∷ rest → is_operand (get_or ss k d) ≡ true → is_kind (get_or ss k d) o ≡ true
-    → kinds_read (drop (k + 1) ss) rest ≡ kinds_read (drop k ss) os
-kinds_more ss k d os rest o below cut stands right = sym (at_drop_more (λ (l : List Sort). kinds_read l os) ss k d below ∙ rw (cut, stands, right) refl)
+  pub kinds_read-append : (ss ts : List Sort) (os : List Operand) → kinds_read d (ss ++ ts) os ≡ kinds_then ts (kinds_read d ss os)
+  kinds_read-append [] ts os = refl
+  kinds_read-append (s ∷ ss) ts [] = sym (kinds_none ts)
+  kinds_read-append (s ∷ ss) ts (o ∷ os) =
+      append-cases ts (is_operand s) (is_kind d s o) (kinds_read d ss os) (kinds_read d (ss ++ ts) os) (kinds_read d ss (o ∷ os)) (kinds_read d (ss ++ ts) (o ∷ os)) (kinds_read-append ss ts os) (kinds_read-append ss ts (o ∷ os))
+
+  kind-case : (k b : Bool) (read : Option (List Operand)) → b ≡ is_read read → (k && b) ≡ is_read (cond k read None)
+  kind-case true b read e = e
+  kind-case false b read e = refl
+
+  all_kinds : (ss : List Sort) (os : List Operand) → all_are (is_kind d) (take (length os) (filter is_operand ss)) os ≡ is_read (kinds_read d ss os)
+  all_kinds [] [] = refl
+  all_kinds [] (o ∷ os) = refl
+  all_kinds (s ∷ ss) [] = refl
+  all_kinds (s ∷ ss) (o ∷ os) = go (is_operand s) (all_kinds ss os) (all_kinds ss (o ∷ os))
+    where
+      go : (b : Bool) → all_are (is_kind d) (take (length os) (filter is_operand ss)) os ≡ is_read (kinds_read d ss os) → all_are (is_kind d) (take (length (o ∷ os)) (filter is_operand ss)) (o ∷ os) ≡ is_read (kinds_read d ss (o ∷ os))
+          → all_are (is_kind d) (take (length (o ∷ os)) (cond b (s ∷ filter is_operand ss) (filter is_operand ss))) (o ∷ os) ≡ is_read (cond b (cond (is_kind d s o) (kinds_read d ss os) None) (kinds_read d ss (o ∷ os)))
+      go true e f = kind-case (is_kind d s o) (all_are (is_kind d) (take (length os) (filter is_operand ss)) os) (kinds_read d ss os) e
+      go false e f = f
+
+  pub kinds_fit-is : (o : Op) (os : List Operand) → kinds_fit d o os ≡ is_read (kinds_then (entry o).may (kinds_read d (entry o).needs os))
+  kinds_fit-is o os = all_kinds ((entry o).needs ++ (entry o).may) os ∙ ap is_read (kinds_read-append (entry o).needs (entry o).may os)
+
+  -- by what is left behind the operands that are needed, and behind those that may be left out
+  pub kinds-told : (o : Op) (os rest : List Operand) (read : Option (List Operand)) → Some rest ≡ kinds_read d (entry o).needs os → read ≡ kinds_read d (entry o).may rest → is_read read ≡ kinds_fit d o os
+  kinds-told o os rest read first then = ap is_read (then ∙ ap (kinds_then (entry o).may) first) ∙ sym (kinds_fit-is o os)
+
+  pub kinds-none : (o : Op) (os : List Operand) → None ≡ kinds_read d (entry o).needs os → false ≡ kinds_fit d o os
+  kinds-none o os none = ap (λ read. is_read (kinds_then (entry o).may read)) none ∙ sym (kinds_fit-is o os)
+
+  -- one sort after another
+  pub kinds_skip : (ss : List Sort) (k : ℕ) (u : Sort) (os : List Operand) → k < length ss → is_operand (get_or ss k u) ≡ false → kinds_read d (drop (k + 1) ss) os ≡ kinds_read d (drop k ss) os
+  kinds_skip ss k u [] below other = kinds_none (drop (k + 1) ss) ∙ sym (kinds_none (drop k ss))
+  kinds_skip ss k u (o ∷ os) below other = sym (at_drop_more (λ (l : List Sort). kinds_read d l (o ∷ os)) ss k u below ∙ rw other refl)

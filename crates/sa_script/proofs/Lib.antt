@@ -2,6 +2,7 @@ pub mod CallLemmas
 pub mod ClashLemmas
 pub mod DeclLemmas
 pub mod DistinctLemmas
+pub mod FixedTextLemmas
 pub mod ItemLemmas
 pub mod KindLemmas
 pub mod LineLemmas
@@ -9,6 +10,7 @@ pub mod ListLemmas
 pub mod NameLemmas
 pub mod ReadingLemmas
 pub mod ResolvingLemmas
+pub mod RunLemmas
 pub mod SoundLemmas
 pub mod SpelledLemmas
 pub mod ValidLemmas

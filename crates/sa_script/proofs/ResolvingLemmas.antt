@@ -101,7 +101,7 @@ call_fault-is c l r is = go r.unfit refl
 pub faultless-call : (c : Context) (slices : Bool) (r : Resolved) → call_fault c slices r ≡ None → (r.unfit ≡ false) × (nat_le most_calls c.calls ≡ false)
 faultless-call c slices r e =
     let is = go ((c.version == 1) && slices) (c.ended || not (has_tasks c)) r.misnamed (r.passes || nat_le most_calls c.calls) r.unfit
-    (cond (r.miskinded || not (call_kinds_fit r.call)) (Some cause.Kind) (cond (not (lengths_fit r.call)) (Some cause.Lengths) (cond (not (rules_fit (declared_in c) r.call)) (Some cause.Clash) (cond r.misfilled (Some cause.Fill) None)))) e in
+    (cond (r.miskinded || not (call_kinds_fit (declared_in c) r.call)) (Some cause.Kind) (cond (not (lengths_fit r.call)) (Some cause.Lengths) (cond (not (rules_fit (declared_in c) r.call)) (Some cause.Clash) (cond r.misfilled (Some cause.Fill) None)))) e in
     (is.0, (or_parts r.passes (nat_le most_calls c.calls) is.1).1)
   where
     go : (a b d g u : Bool) (rest : Option Cause) → cond a (Some cause.Syntax) (cond b (Some cause.Order) (cond d (Some cause.Name) (cond g (Some cause.Limit) (cond u (Some cause.View) rest)))) ≡ None → (u ≡ false) × (g ≡ false)

@@ -6,18 +6,21 @@ use Rattle.std.proofs.lemmas.Bool.{or_parts, not-false, ltb-false, leb-false, lt
 use Rattle.std.proofs.lemmas.List.Sums.{sum_by-append}
 use Rattle.sa_descr.specs.declared.descr.NaRule.{NaRule}
 use Rattle.sa_descr.specs.declared.descr.NaRule.TheVariants.{Absent}
-use Rattle.sa_call.specs.declared.decls.Kind.TheVariants as kind
+use Rattle.sa_plain.specs.Plains.{IsWidth}
+use Rattle.sa_call.specs.declared.decls.Kind.{Kind}
 use Rattle.sa_call.specs.declared.decls.ArrayDecl.{ArrayDecl}
 use Rattle.sa_call.specs.declared.call.Call.{Call}
 use Rattle.sa_call.specs.Calls.{lengths_fit}
-use Rattle.sa_call.specs.Decls.{Declared, entries_of, entries_at}
+use Rattle.sa_call.specs.Decls.{Declared, HasWidths, entries_of, entries_at}
 use Rattle.sa_call.specs.Valid.{IsCall, call_kinds_fit, rules_fit}
 use Rattle.sa_script.specs.declared.cause.Cause.TheVariants as cause
 use Rattle.sa_script.specs.declared.context.Context.{Context}
+use Rattle.sa_script.specs.declared.statement.KindTerm.{KindTerm}
+use Rattle.sa_script.specs.declared.statement.KindTerm.TheVariants as term
 use Rattle.sa_script.specs.declared.statement.Statement.{Statement}
 use Rattle.sa_script.specs.declared.statement.Statement.TheVariants as statement
-use Rattle.sa_script.specs.Contexts.{declared_in, nothing, with_call, with_descr, with_array, with_task, with_last, descr_number, home_number, is_known, length_allowed}
-use Rattle.sa_script.specs.Faults.{fault_of, misplaced, out_of_order, misnamed, over_limit, bad_view, bad_kind, bad_lengths, bad_rules, bad_fill, passes_entries, is_long}
+use Rattle.sa_script.specs.Contexts.{declared_in, nothing, with_call, with_descr, with_array, with_task, with_last, descr_number, home_number, is_known, kind_in, length_allowed, width_allowed}
+use Rattle.sa_script.specs.Faults.{fault_of, misplaced, out_of_order, misnamed, over_limit, bad_view, bad_kind, bad_lengths, bad_rules, bad_fill, kind_passes, passes_entries, is_long, width_passes}
 use Rattle.sa_script.specs.Names.{name_of}
 use Rattle.sa_script.specs.Scripts.{statement_adds, context_after}
 use Rattle.sa_script.specs.Sound.{AreCalls, IsDeclaredName, IsRule, HasTextRule}
@@ -86,6 +89,7 @@ descr_after c name rule coerce s named_so new text untasked few =
           descrs = omega arith;
           arrays = d.arrays;
           entries = d.entries;
+          widths = d.widths;
         };
         descr_names = let before = s.sound.descr_names in omega arith;
         array_names = s.sound.array_names;
@@ -103,22 +107,39 @@ descr_after c name rule coerce s named_so new text untasked few =
     }
 
 -- the entries of a descriptor with one more array
-entries_after : (arrays : List ArrayDecl) (home len : ℕ) (given : Option ℤ) (other : ℕ) → entries_of arrays other ≤ 8192 → passes_entries (entries_of arrays home) given ≡ false → len ≡ length_allowed given
-    → entries_of (arrays ++ (record { home = home; kind = kind.Str; len = len }) ∷ []) other ≤ 8192
-entries_after arrays home len given other within fits same =
-    let whole = sum_by-append (entries_at other) arrays ((record { home = home; kind = kind.Str; len = len }) ∷ []) in
+entries_after : (arrays : List ArrayDecl) (home : ℕ) (kind : Kind) (len : ℕ) (given : Option ℤ) (other : ℕ) → entries_of arrays other ≤ 8192 → passes_entries (entries_of arrays home) given ≡ false → len ≡ length_allowed given
+    → entries_of (arrays ++ (record { home = home; kind = kind; len = len }) ∷ []) other ≤ 8192
+entries_after arrays home kind len given other within fits same =
+    let whole = sum_by-append (entries_at other) arrays ((record { home = home; kind = kind; len = len }) ∷ []) in
     go (eqb home other) refl whole
   where
-    go : (b : Bool) → eqb home other ≡ b → sum_by (entries_at other) (arrays ++ (record { home = home; kind = kind.Str; len = len }) ∷ []) ≡ sum_by (entries_at other) arrays + (0 + cond (eqb home other) len 0) → entries_of (arrays ++ (record { home = home; kind = kind.Str; len = len }) ∷ []) other ≤ 8192
+    go : (b : Bool) → eqb home other ≡ b → sum_by (entries_at other) (arrays ++ (record { home = home; kind = kind; len = len }) ∷ []) ≡ sum_by (entries_at other) arrays + (0 + cond (eqb home other) len 0) → entries_of (arrays ++ (record { home = home; kind = kind; len = len }) ∷ []) other ≤ 8192
     go true e whole = let at_home : home ≡ other = eqb-true home other e in let more = entry_fits (entries_of arrays home) given fits in let here : cond (eqb home other) len 0 ≡ len = rw e refl in let there : entries_of arrays home ≡ entries_of arrays other = ap (entries_of arrays) at_home in omega arith
     go false e whole = let here : cond (eqb home other) len 0 ≡ 0 = rw e refl in omega arith
 
+-- a width that passes no limit
+wide_enough : (width : Option ℤ) → width_passes width ≡ false → IsWidth (width_allowed width)
+wide_enough None e = cc
+wide_enough (Some (pos n)) e =
+    let parts = or_parts (nat_lt n 1) (nat_lt 256 n) e in
+    let some = ltb-false n 1 parts.0 in
+    let few = ltb-false 256 n parts.1 in
+    (omega arith, omega arith)
+wide_enough (Some (negsuc n)) e = cc
+
+kind_widths : (kind : KindTerm) → kind_passes kind ≡ false → HasWidths (kind_in kind)
+kind_widths term.Str e = tt
+kind_widths term.Int e = tt
+kind_widths term.Bool e = tt
+kind_widths (term.Bytes width) e = wide_enough width e
+kind_widths (term.Fixed width) e = wide_enough width e
+
 -- a further array
-array_after : (c : Context) (name home : List ℕ) (len : Option ℤ) → IsSoundContext c → IsDeclaredName name → is_known c.names name ≡ false → nat_lt 0 (length c.tasks) ≡ false → nat_le 64 (length c.arrays) ≡ false
-    → is_none (descr_number c home) ≡ false → passes_entries (entries_of c.arrays (home_number c home)) len ≡ false → IsSoundContext (with_array c name (home_number c home) (length_allowed len))
-array_after c name home len s named_so new_name untasked few known fits =
+array_after : (c : Context) (name home : List ℕ) (kind : KindTerm) (len : Option ℤ) → IsSoundContext c → IsDeclaredName name → is_known c.names name ≡ false → nat_lt 0 (length c.tasks) ≡ false → nat_le 64 (length c.arrays) ≡ false
+    → is_none (descr_number c home) ≡ false → kind_passes kind ≡ false → passes_entries (entries_of c.arrays (home_number c home)) len ≡ false → IsSoundContext (with_array c name (home_number c home) (kind_in kind) (length_allowed len))
+array_after c name home kind len s named_so new_name untasked few known wide fits =
     let d = s.sound.declared in
-    let new : ArrayDecl = record { home = home_number c home; kind = kind.Str; len = length_allowed len } in
+    let new : ArrayDecl = record { home = home_number c home; kind = kind_in kind; len = length_allowed len } in
     let room = leb-false 64 (length c.arrays) few in
     let longer = length-append c.arrays (new ∷ []) in
     let named = length-append c.names.arrays (name ∷ []) in
@@ -130,7 +151,8 @@ array_after c name home len s named_so new_name untasked few known fits =
           homes = all_push (λ (a : ArrayDecl). a.home < length c.descrs) c.arrays new d.homes below;
           descrs = d.descrs;
           arrays = omega arith;
-          entries = λ other. entries_after c.arrays (home_number c home) (length_allowed len) len other (d.entries other) fits refl;
+          entries = λ other. entries_after c.arrays (home_number c home) (kind_in kind) (length_allowed len) len other (d.entries other) fits refl;
+          widths = all_push (λ (a : ArrayDecl). HasWidths a.kind) c.arrays new d.widths (kind_widths kind wide);
         };
         descr_names = s.sound.descr_names;
         array_names = let before = s.sound.array_names in omega arith;
@@ -216,7 +238,7 @@ unfolding IsDistinct
 sound_nothing = record {
   version = inl refl;
   sound = record {
-    declared = record { homes = tt; descrs = omega arith; arrays = omega arith; entries = λ home. omega arith };
+    declared = record { homes = tt; descrs = omega arith; arrays = omega arith; entries = λ home. omega arith; widths = tt };
     descr_names = refl;
     array_names = refl;
     names = record { descrs = tt; arrays = tt; distinct = tt };
@@ -236,21 +258,22 @@ adds_sound c (statement.Descr name rule coerce) s spelled e =
     let limit = or_parts (is_long name || is_none rule) (nat_le 8 (length c.descrs)) none.fourth in
     let short = or_parts (is_long name) (is_none rule) limit.0 in
     descr_after c name (unwrap_or rule Absent) coerce s (declared_name name spelled.0 short.0) none.third (given_rule rule spelled.1) order.1 limit.1
-adds_sound c (statement.Array name home len) s spelled e =
-    let none = faultless c (statement.Array name home len) e in
+adds_sound c (statement.Array name home kind len) s spelled e =
+    let none = faultless c (statement.Array name home kind len) e in
     let order = or_parts c.ended (nat_lt 0 (length c.tasks)) none.second in
     let names = or_parts (is_known c.names name) (is_none (descr_number c home)) none.third in
-    let limit = or_parts (is_long name || nat_le 64 (length c.arrays)) (passes_entries (entries_of c.arrays (home_number c home)) len) none.fourth in
-    let few = or_parts (is_long name) (nat_le 64 (length c.arrays)) limit.0 in
-    array_after c name home len s (declared_name name spelled few.0) names.0 order.1 few.1 names.1 limit.1
+    let limit = or_parts ((is_long name || nat_le 64 (length c.arrays)) || kind_passes kind) (passes_entries (entries_of c.arrays (home_number c home)) len) none.fourth in
+    let shape = or_parts (is_long name || nat_le 64 (length c.arrays)) (kind_passes kind) limit.0 in
+    let few = or_parts (is_long name) (nat_le 64 (length c.arrays)) shape.0 in
+    array_after c name home kind len s (declared_name name spelled few.0) names.0 order.1 few.1 names.1 shape.1 limit.1
 adds_sound c statement.Task s spelled e = let none = faultless c statement.Task e in task_after c s none.fourth
 adds_sound c (statement.Call l) s spelled e =
     let none = faultless c (statement.Call l) e in
     let order = or_parts c.ended (not (nat_lt 0 (length c.tasks))) none.second in
     let limit = or_parts (line_passes l) (nat_le 1024 c.calls) none.fourth in
-    let kinds = or_parts (line_miskinded l) (not (call_kinds_fit (call_in c l))) none.sixth in
+    let kinds = or_parts (line_miskinded l) (not (call_kinds_fit (declared_in c) (call_in c l))) none.sixth in
     call_after c (call_in c l) s order.1 limit.1
-    (line-valid c l s spelled none.third limit.0 none.fifth (not-false (call_kinds_fit (call_in c l)) kinds.1)
+    (line-valid c l s spelled none.third limit.0 none.fifth (not-false (call_kinds_fit (declared_in c) (call_in c l)) kinds.1)
     (not-false (lengths_fit (call_in c l)) none.seventh) (not-false (rules_fit (declared_in c) (call_in c l)) none.eighth))
 adds_sound c statement.End s spelled e = record { version = s.version; sound = s.sound; counted = s.counted }
 

@@ -1,8 +1,6 @@
 -- What a line spells: its names are names, its texts are texts, and its list is a literal where it passes no limit.
-use Rattle.std.proofs.Common.{◌≡◌, ◌≤◌, ◌⊎◌, inl, inr, ℕ, zero, suc, ℤ, Bool, true, false, cond, ◌&&◌, not, eqb, nat_lt, List, [], ◌∷◌, ◌++◌, length, map, Option, Some, None, option_map, is_some, is_none, Result, Ok, Err, codes, refl, sym, ap, subst, ◌∙◌, arith, length-append, append-nil}
-use Rattle.std.specs.List.{AllByRecursion}
+use Rattle.std.proofs.Common.{◌≡◌, inl, inr, ℕ, ℤ, Bool, true, false, cond, ◌&&◌, not, eqb, List, [], ◌∷◌, ◌++◌, map, Option, Some, None, option_map, is_some, is_none, Result, Ok, Err, codes, refl, sym, ap, subst, ◌∙◌, arith, append-nil}
 use Rattle.std.specs.Option.{IfSome}
-use Rattle.std.proofs.lemmas.Bool.{ltb-true}
 use Rattle.std.proofs.lemmas.Option.{same_Some}
 use Rattle.sa_lines.specs.Options.{◌>>=◌}
 use Rattle.sa_lines.specs.Quotes.{quoted_at}
@@ -14,14 +12,15 @@ use Rattle.sa_text.specs.declared.text_error.TextError.TheVariants as errors
 use Rattle.sa_text.specs.declared.value.Value.{Value}
 use Rattle.sa_text.specs.declared.value.Value.TheVariants.{Missing}
 use Rattle.sa_plain.specs.declared.items.Items.{Items}
-use Rattle.sa_plain.specs.declared.items.Items.TheVariants.{Values, Ints}
+use Rattle.sa_plain.specs.declared.items.Items.TheVariants.{Values, Ints, Flags, Bytes, Units}
 use Rattle.sa_text.proofs.TextLemmas.{text_of-text}
 use Rattle.sa_descr.specs.declared.descr.NaRule.{NaRule}
 use Rattle.sa_descr.specs.declared.descr.NaRule.TheVariants.{Absent, Nan, Other, Txt}
 use Rattle.sa_script.specs.declared.statement.Statement.{Statement}
 use Rattle.sa_script.specs.declared.statement.Statement.TheVariants as statement
-use Rattle.sa_script.specs.Items.{fitting, text_at, nothing_left, text_token, of_text, missing_at, item_at, one_more, uncons, further_at, items_at, number_at, list_as, has_values, list_of}
-use Rattle.sa_script.specs.Limits.{most_items}
+use Rattle.sa_script.specs.declared.item_kind.ItemKind.{ItemKind}
+use Rattle.sa_script.specs.declared.item_kind.ItemKind.TheVariants as kinds
+use Rattle.sa_script.specs.Items.{fitting, text_at, nothing_left, text_token, of_text, missing_at, item_at, number_at, flag_at, bytes_at, units_at, list_as, item_kind, list_of_kind, list_of}
 use Rattle.sa_script.specs.Names.{name_of, is_name, is_reserved}
 use Rattle.sa_script.specs.Sound.{IsRule}
 use Rattle.sa_script.specs.Spelled.{IsList, IsTerm, AreTermsOf, AreTerms, output_given, IsSpelled}
@@ -37,22 +36,8 @@ use Rattle.sa_call.proofs.OpLemmas.{has-defaults}
 use Rattle.sa_script.specs.declared.statement.ViewTerm.{ViewTerm}
 use Rattle.sa_script.specs.declared.statement.Term.{Term}
 use Rattle.sa_script.specs.declared.statement.Term.TheVariants as term
-use Rattle.sa_script.specs.Statements.{text_rule_of, rule_of, coerce_of, descr_of, length_of, array_of, version_of, call_of, front_of, term_of, terms_of, is_over, left_out, behind_terms, operands_of, list_or_view, into_of, nothing_behind, behind_of, alone, statement_of}
-use Rattle.sa_script.proofs.ListLemmas.{all_push}
-
--- what was read of a reading after another, and of a choice of two
-record Bound {A B : Type 0} (o : Option A) (f : A → Option B) (y : B) : Type 0 where
-  value : A
-  first : o ≡ Some value
-  then : f value ≡ Some y
-
-bound : {A B : Type 0} (o : Option A) (f : A → Option B) (y : B) → (o >>= f) ≡ Some y → Bound o f y
-bound None f y e = cc
-bound (Some x) f y e = record { value = x; first = refl; then = e }
-
-chosen : {A : Type 0} (b : Bool) (o p : Option A) (y : A) (P : A → Type 0) → (o ≡ Some y → P y) → (p ≡ Some y → P y) → cond b o p ≡ Some y → P y
-chosen true o p y P f g e = f e
-chosen false o p y P f g e = g e
+use Rattle.sa_script.specs.Statements.{text_rule_of, rule_of, coerce_of, descr_of, shape_of, array_of, version_of, call_of, front_of, term_of, terms_of, is_over, left_out, behind_terms, operands_of, list_or_view, into_of, nothing_behind, behind_of, alone, statement_of}
+use Rattle.sa_script.proofs.RunLemmas.{bound, chosen, nothing_left_is, IsReadList, Reads, read_list, IsAny, any_read}
 
 -- names
 name_again : (token name : List ℕ) (b : Bool) → name_of token ≡ cond b (Some token) None → cond b (Some token) None ≡ Some name → name_of name ≡ Some name
@@ -75,10 +60,6 @@ text_at_text bs t e =
     let f = bound (fitting (text_of q.value.0)) _ t q.then in
     let is = fitting_text (text_of q.value.0) f.value IsText (λ text read. text_of-text q.value.0 text read) f.first in
     subst (λ (x : Option (List ℕ) × List ℕ). IfSome x.0 IsText) (same_Some _ t f.then) is
-
-nothing_left_is : {A : Type 0} (a : A) (bs : List ℕ) (x : A) → nothing_left (a, bs) ≡ Some x → a ≡ x
-nothing_left_is a [] x e = same_Some a x e
-nothing_left_is a (b ∷ bs) x e = cc
 
 text_token_text : (token : List ℕ) (text : Option (List ℕ)) → text_token token ≡ Some text → IfSome text IsText
 text_token_text token text e =
@@ -106,77 +87,7 @@ item_value (b ∷ bs) i e =
     subst (λ (x : Option Value × List ℕ). IfSome x.0 IsTextValue) (same_Some _ i t.then) (of_text_value t.value.0 (text_at_text (b ∷ bs) t.value t.first)))
     e
 
--- lists: there is an item at least, there are no more than a list may have, and something holds of each
-record IsRun {A : Type 0} (P : A → Type 0) (xs : List A) : Type 0 where
-  some : 1 ≤ length xs
-  few : length xs ≤ most_items
-  all : AllByRecursion P xs
-
-abbrev AreRead : {A : Type 0} → (A → Type 0) → Option (List A) → Type 0
-AreRead P items = IfSome items (AllByRecursion P)
-
-abbrev IsReadList : {A : Type 0} → (A → Type 0) → Option (List A) → Type 0
-IsReadList P items = IfSome items (IsRun P)
-
-all_read : {A : Type 0} (P : A → Type 0) (items : Option (List A)) → IsReadList P items → AreRead P items
-all_read P None is = tt
-all_read P (Some xs) is = is.all
-
-pushed : {A : Type 0} (P : A → Type 0) (b : Bool) (xs : List A) (x : A) → nat_lt (length xs) most_items ≡ b → AllByRecursion P xs → P x → IsReadList P (cond b (Some (xs ++ x ∷ [])) None)
-pushed P false xs x room before is = tt
-pushed P true xs x room before is =
-    let longer = length-append xs (x ∷ []) in
-    let below = ltb-true (length xs) 8192 room in
-    record { some = omega arith; few = omega arith; all = all_push P xs x before is }
-
-one_more_list : {A : Type 0} (P : A → Type 0) (items : Option (List A)) (item : Option A) → AreRead P items → IfSome item P → IsReadList P (one_more items item)
-one_more_list P None item before is = tt
-one_more_list P (Some xs) None before is = tt
-one_more_list P (Some xs) (Some x) before is = pushed P (nat_lt (length xs) most_items) xs x refl before is
-
--- each item that is read passes
-abbrev Reads : {A : Type 0} → (A → Type 0) → (List ℕ → Option (Option A × List ℕ)) → Type 0
-Reads {A} P item = (bs : List ℕ) (i : Option A × List ℕ) → item bs ≡ Some i → IfSome i.0 P
-
-further_list : {A : Type 0} (P : A → Type 0) (item : List ℕ → Option (Option A × List ℕ)) (so_far : Option (List A)) (bs : List ℕ) (f : Option (List A) × ℕ × List ℕ)
-    → Reads P item → AreRead P so_far → further_at item so_far bs ≡ Some f → IsReadList P f.0
-further_list {A} P item so_far bs f reads before e =
-    let i = bound (item bs) _ f e in
-    let r = bound (uncons i.value.1) _ f i.then in
-    subst (λ (x : Option (List A) × ℕ × List ℕ). IsReadList P x.0) (same_Some _ f r.then) (one_more_list P so_far i.value.0 before (reads bs i.value i.first))
-
-items_list : {A : Type 0} (P : A → Type 0) (item : List ℕ → Option (Option A × List ℕ)) (left : ℕ) (so_far : Option (List A)) (bs : List ℕ) (r : Option (List A) × List ℕ)
-    → Reads P item → AreRead P so_far → items_at item left so_far bs ≡ Some r → IsReadList P r.0
-items_list P item zero so_far bs r reads before e = cc
-items_list {A} P item (suc left) so_far bs r reads before e =
-    let f = bound (further_at item so_far bs) _ r e in
-    let is = further_list P item so_far bs f.value reads before f.first in
-    chosen (eqb f.value.1 44) (items_at item left f.value.0 f.value.2) (cond (eqb f.value.1 41) (Some (f.value.0, f.value.2)) None) r (λ (x : Option (List A) × List ℕ). IsReadList P x.0)
-    (λ more. items_list P item left f.value.0 f.value.2 r reads (all_read P f.value.0 is) more)
-    (λ last. chosen (eqb f.value.1 41) (Some (f.value.0, f.value.2)) None r (λ (x : Option (List A) × List ℕ). IsReadList P x.0)
-    (λ end. subst (λ (x : Option (List A) × List ℕ). IsReadList P x.0) (same_Some _ r end) is) (λ none. cc) last)
-    f.then
-
-read_list : {A : Type 0} (P : A → Type 0) (item : List ℕ → Option (Option A × List ℕ)) (token : List ℕ) (items : Option (List A)) → Reads P item → list_as item token ≡ Some items → IsReadList P items
-read_list P item [] items reads e = cc
-read_list {A} P item (b ∷ bs) items reads e =
-    chosen (eqb b 40) (items_at item (length bs) (Some []) bs >>= nothing_left) (item (b ∷ bs) >>= λ i. nothing_left (one_more (Some []) i.0, i.1)) items (IsReadList P)
-    (λ f.
-    let r = bound (items_at item (length bs) (Some []) bs) nothing_left items f in
-    subst (IsReadList P) (nothing_left_is r.value.0 r.value.1 items r.then) (items_list P item (length bs) (Some []) bs r.value reads tt r.first))
-    (λ f.
-    let i = bound (item (b ∷ bs)) _ items f in
-    subst (IsReadList P) (nothing_left_is (one_more (Some []) i.value.0) i.value.1 items i.then) (one_more_list P (Some []) i.value.0 tt (reads (b ∷ bs) i.value i.first)))
-    e
-
--- a number is any
-abbrev IsAny : ℤ → Type 0
-IsAny n = Unit {0}
-
-any_number : (bs : List ℕ) (i : Option ℤ × List ℕ) → number_at bs ≡ Some i → IfSome i.0 IsAny
-any_number bs (None, rest) e = tt
-any_number bs (Some n, rest) e = tt
-
+-- lists
 value_literal : (values : Option (List Value)) → IsReadList IsTextValue values → IsList (option_map Values values)
 value_literal None is = tt
 value_literal (Some values) is = record { some = is.some; few = is.few; texts = is.all }
@@ -185,18 +96,34 @@ number_literal : (numbers : Option (List ℤ)) → IsReadList IsAny numbers → 
 number_literal None is = tt
 number_literal (Some numbers) is = record { some = is.some; few = is.few; texts = tt }
 
-value_list_spelled : (token : List ℕ) (items : Option Items) (o : Option (Option (List Value))) → list_as item_at token ≡ o → option_map (λ values. option_map Values values) o ≡ Some items → IsList items
-value_list_spelled token items None is e = cc
-value_list_spelled token items (Some values) is e = subst IsList (same_Some _ items e) (value_literal values (read_list IsTextValue item_at token values item_value is))
+flag_literal : (flags : Option (List Bool)) → IsReadList IsAny flags → IsList (option_map Flags flags)
+flag_literal None is = tt
+flag_literal (Some flags) is = record { some = is.some; few = is.few; texts = tt }
 
-number_list_spelled : (token : List ℕ) (items : Option Items) (o : Option (Option (List ℤ))) → list_as number_at token ≡ o → option_map (λ numbers. option_map Ints numbers) o ≡ Some items → IsList items
-number_list_spelled token items None is e = cc
-number_list_spelled token items (Some numbers) is e = subst IsList (same_Some _ items e) (number_literal numbers (read_list IsAny number_at token numbers any_number is))
+bytes_literal : (rows : Option (List (List ℕ))) → IsReadList IsAny rows → IsList (option_map Bytes rows)
+bytes_literal None is = tt
+bytes_literal (Some rows) is = record { some = is.some; few = is.few; texts = tt }
+
+units_literal : (rows : Option (List (List ℕ))) → IsReadList IsAny rows → IsList (option_map Units rows)
+units_literal None is = tt
+units_literal (Some rows) is = record { some = is.some; few = is.few; texts = tt }
+
+-- a list of a kind, by how its items are read
+list_read : {A : Type 0} (P : A → Type 0) (item : List ℕ → Option (Option A × List ℕ)) (made : List A → Items) (token : List ℕ) (items : Option Items)
+    → Reads P item → ((found : Option (List A)) → IsReadList P found → IsList (option_map made found))
+    → (o : Option (Option (List A))) → list_as item token ≡ o → option_map (λ found. option_map made found) o ≡ Some items → IsList items
+list_read P item made token items reads literal None is e = cc
+list_read P item made token items reads literal (Some found) is e = subst IsList (same_Some _ items e) (literal found (read_list P item token found reads is))
+
+kind_spelled : (kind : ItemKind) (token : List ℕ) (items : Option Items) → list_of_kind kind token ≡ Some items → IsList items
+kind_spelled kinds.Values token items e = list_read IsTextValue item_at Values token items item_value value_literal (list_as item_at token) refl e
+kind_spelled kinds.Numbers token items e = list_read IsAny number_at Ints token items (any_read number_at) number_literal (list_as number_at token) refl e
+kind_spelled kinds.Flags token items e = list_read IsAny flag_at Flags token items (any_read flag_at) flag_literal (list_as flag_at token) refl e
+kind_spelled kinds.Bytes token items e = list_read IsAny bytes_at Bytes token items (any_read bytes_at) bytes_literal (list_as bytes_at token) refl e
+kind_spelled kinds.Units token items e = list_read IsAny units_at Units token items (any_read units_at) units_literal (list_as units_at token) refl e
 
 list_spelled : (token : List ℕ) (items : Option Items) → list_of token ≡ Some items → IsList items
-list_spelled token items e =
-    chosen (has_values token) (option_map (λ values. option_map Values values) (list_as item_at token)) (option_map (λ numbers. option_map Ints numbers) (list_as number_at token)) items IsList
-    (λ f. value_list_spelled token items (list_as item_at token) refl f) (λ f. number_list_spelled token items (list_as number_at token) refl f) e
+list_spelled token items e = kind_spelled (item_kind token) token items e
 
 -- rules
 abbrev IsRead : Option NaRule × List (List ℕ) → Type 0
@@ -235,7 +162,7 @@ array_spelled (n ∷ []) s e = cc
 array_spelled (n ∷ d ∷ ts) s e =
     let name = bound (name_of n) _ s e in
     let home = bound (name_of d) _ s name.then in
-    let len = bound (length_of ts) _ s home.then in
+    let len = bound (shape_of ts) _ s home.then in
     subst IsSpelled (same_Some _ s len.then) (name_spelled n name.value name.first)
 
 -- the line of a call

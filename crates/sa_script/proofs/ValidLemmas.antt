@@ -1,5 +1,5 @@
 -- The call of a line without a fault is valid.
-use Rattle.std.proofs.Common.{◌≡◌, ◌⊎◌, inl, inr, ℕ, zero, suc, ◌+◌, ◌-◌, ◌*◌, ◌<◌, nat_lt, Bool, true, false, not, ◌&&◌, ◌||◌, ℤ, pos, negsuc, List, [], ◌∷◌, ◌++◌, length, Option, Some, None, option_map, is_none, unwrap_or, refl, sym, ap, subst, ◌∙◌, arith}
+use Rattle.std.proofs.Common.{◌≡◌, inl, inr, ℕ, zero, suc, ◌+◌, ◌-◌, ◌*◌, ◌<◌, nat_lt, Bool, true, false, not, ◌&&◌, ◌||◌, ℤ, pos, negsuc, List, [], ◌∷◌, ◌++◌, length, Option, Some, None, option_map, is_none, unwrap_or, refl, sym, ap, subst, ◌∙◌, arith}
 use Rattle.std.specs.List.{AllByRecursion, list_any, list_all}
 use Rattle.std.proofs.lemmas.Bool.{or_parts, and_parts, and_from, lt-ltb, not-false, true≢false}
 use Rattle.std.proofs.lemmas.List.Quantifiers.{position-Some}
@@ -223,11 +223,11 @@ line-meant c l s is known few fit =
     }
 
 pub line-valid : (c : Context) (l : Line) → IsSoundContext c → IsLine l → line_misnamed c l ≡ false → line_passes l ≡ false → line_unfit c l ≡ false
-    → call_kinds_fit (call_in c l) ≡ true → lengths_fit (call_in c l) ≡ true → rules_fit (declared_in c) (call_in c l) ≡ true → IsCall (declared_in c) (call_in c l)
+    → call_kinds_fit (declared_in c) (call_in c l) ≡ true → lengths_fit (call_in c l) ≡ true → rules_fit (declared_in c) (call_in c l) ≡ true → IsCall (declared_in c) (call_in c l)
 line-valid c l s is known few fit kinds lengths rules =
     let names = or_parts (list_any (term_misnamed c) l.operands) (of_output (view_misnamed c) l.out) known in
     let meant = line-meant c l s is known few fit in
-    let both = and_parts (kinds_fit (call_in c l).op (call_in c l).operands) (results_fit (entry (call_in c l).op).results (call_in c l).out) kinds in
+    let both = and_parts (kinds_fit (declared_in c) (call_in c l).op (call_in c l).operands) (results_fit (declared_in c) (entry (call_in c l).op).results (call_in c l).operands (call_in c l).out) kinds in
     record {
       sorts = meant.sorts;
       kinds = both.0;

@@ -3,10 +3,14 @@ use Rattle.std.specs.Prelude.{ℕ, ◌+◌, ℤ, Bool, true, false, ◌||◌, Li
 use Rattle.std.specs.Str.{bytes_eq}
 use Rattle.sa_descr.specs.declared.descr.NaRule.{NaRule}
 use Rattle.sa_view.specs.Views.{natural}
+use Rattle.sa_plain.specs.declared.kind.PlainKind.TheVariants as plain
+use Rattle.sa_call.specs.declared.decls.Kind.{Kind}
 use Rattle.sa_call.specs.declared.decls.Kind.TheVariants as kind
 use Rattle.sa_call.specs.declared.call.Call.{Call}
 use Rattle.sa_call.specs.Decls.{Declared, length_at}
 use Rattle.sa_script.specs.declared.context.Context.{Context}
+use Rattle.sa_script.specs.declared.statement.KindTerm.{KindTerm}
+use Rattle.sa_script.specs.declared.statement.KindTerm.TheVariants as term
 use Rattle.sa_script.specs.Names.{Known}
 
 -- the number of a name among these, none where it is not among them
@@ -48,11 +52,23 @@ abbrev pub length_allowed : Option ℤ → ℕ
 length_allowed None = 0
 length_allowed (Some n) = natural n
 
+-- a width that a limit allows, 0 in place of each other; and the kind that a declaration means
+abbrev pub width_allowed : Option ℤ → ℕ
+width_allowed None = 0
+width_allowed (Some n) = natural n
+
+abbrev pub kind_in : KindTerm → Kind
+kind_in term.Str = kind.Str
+kind_in term.Int = kind.Plain plain.Int
+kind_in term.Bool = kind.Plain plain.Bool
+kind_in (term.Bytes width) = kind.Plain (plain.Bytes (width_allowed width))
+kind_in (term.Fixed width) = kind.Plain (plain.Fixed (width_allowed width))
+
 abbrev pub with_descr : Context → List ℕ → NaRule → Bool → Context
 with_descr c name rule coerce = record c { descrs = c.descrs ++ (record { na = rule; coerce = coerce }) ∷ []; names = record { descrs = c.names.descrs ++ name ∷ []; arrays = c.names.arrays } }
 
-abbrev pub with_array : Context → List ℕ → ℕ → ℕ → Context
-with_array c name home len = record c { arrays = c.arrays ++ (record { home = home; kind = kind.Str; len = len }) ∷ []; names = record { descrs = c.names.descrs; arrays = c.names.arrays ++ name ∷ [] } }
+abbrev pub with_array : Context → List ℕ → ℕ → Kind → ℕ → Context
+with_array c name home kind len = record c { arrays = c.arrays ++ (record { home = home; kind = kind; len = len }) ∷ []; names = record { descrs = c.names.descrs; arrays = c.names.arrays ++ name ∷ [] } }
 
 abbrev pub with_task : Context → Context
 with_task c = record c { tasks = c.tasks ++ [] ∷ [] }

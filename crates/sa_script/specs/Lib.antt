@@ -2,6 +2,7 @@ pub use Rattle.sa_call.specs.Decls
 pub use Rattle.sa_call.specs.Valid
 pub mod Contexts
 pub mod Faults
+pub mod FixedTexts
 pub mod Items
 pub mod Kinds
 pub mod Limits

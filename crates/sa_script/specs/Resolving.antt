@@ -79,7 +79,7 @@ call_fault c slices r =
     else (if r.misnamed then Some cause.Name
     else (if r.passes || nat_le most_calls c.calls then Some cause.Limit
     else (if r.unfit then Some cause.View
-    else (if r.miskinded || not (call_kinds_fit r.call) then Some cause.Kind
+    else (if r.miskinded || not (call_kinds_fit (declared_in c) r.call) then Some cause.Kind
     else (if not (lengths_fit r.call) then Some cause.Lengths
     else (if not (rules_fit (declared_in c) r.call) then Some cause.Clash
     else (if r.misfilled then Some cause.Fill

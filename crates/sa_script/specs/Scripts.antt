@@ -13,7 +13,7 @@ use Rattle.sa_script.specs.declared.statement.Statement.{Statement}
 use Rattle.sa_script.specs.declared.fault.ScriptFault.{ScriptFault}
 use Rattle.sa_script.specs.declared.fault.ScriptFault.TheVariants as errors
 use Rattle.sa_script.specs.declared.statement.Statement.TheVariants as statement
-use Rattle.sa_script.specs.Contexts.{nothing, with_begun, with_descr, with_array, with_task, with_last, home_number, length_allowed}
+use Rattle.sa_script.specs.Contexts.{nothing, with_begun, with_descr, with_array, with_task, with_last, home_number, kind_in, length_allowed}
 use Rattle.sa_script.specs.Names.{Known}
 use Rattle.sa_script.specs.Terms.{call_in}
 use Rattle.sa_script.specs.Faults.{fault_of, code_of}
@@ -23,7 +23,7 @@ use Rattle.sa_script.specs.Statements.{statement_of}
 abbrev pub statement_adds : Context → Statement → Context
 statement_adds c statement.Version = record c { version = 2 }
 statement_adds c (statement.Descr name rule coerce) = with_descr c name (unwrap_or rule Absent) coerce
-statement_adds c (statement.Array name home len) = with_array c name (home_number c home) (length_allowed len)
+statement_adds c (statement.Array name home kind len) = with_array c name (home_number c home) (kind_in kind) (length_allowed len)
 statement_adds c statement.Task = with_task c
 statement_adds c (statement.Call l) = with_last c (call_in c l)
 statement_adds c statement.End = record c { ended = true }

@@ -74,7 +74,7 @@ pub record IsLine (l : Line) : Type 0 where
 abbrev pub IsSpelled : Statement → Type 0
 IsSpelled statement.Version = Unit {0}
 IsSpelled (statement.Descr name rule coerce) = (name_of name ≡ Some name) × IfSome rule IsRule
-IsSpelled (statement.Array name home len) = name_of name ≡ Some name
+IsSpelled (statement.Array name home kind len) = name_of name ≡ Some name
 IsSpelled statement.Task = Unit {0}
 IsSpelled (statement.Call l) = IsLine l
 IsSpelled statement.End = Unit {0}

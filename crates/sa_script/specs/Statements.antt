@@ -19,6 +19,8 @@ use Rattle.sa_script.specs.Views.{view_of}
 use Rattle.sa_script.specs.declared.statement.ViewTerm.{ViewTerm}
 use Rattle.sa_script.specs.declared.statement.Term.{Term}
 use Rattle.sa_script.specs.declared.statement.Term.TheVariants as term
+use Rattle.sa_script.specs.declared.statement.KindTerm.{KindTerm}
+use Rattle.sa_script.specs.declared.statement.KindTerm.TheVariants as kinds
 use Rattle.sa_script.specs.declared.statement.Statement.{Statement}
 use Rattle.sa_script.specs.declared.statement.Statement.TheVariants.{Version, Descr, Array, Task, Call, End}
 
@@ -48,18 +50,31 @@ abbrev pub descr_of : List (List ℕ) → Option Statement
 descr_of [] = None
 descr_of (n ∷ ts) = name_of n >>= λ name. rule_of ts >>= λ r. coerce_of r.1 >>= λ coerce. Some (Descr name r.0 coerce)
 
--- a kind and a length
-abbrev pub length_of : List (List ℕ) → Option (Option ℤ)
-length_of [] = None
-length_of (k ∷ []) = None
-length_of (k ∷ n ∷ []) = if is_word (codes "str") k then number_of n else None
-length_of (k ∷ n ∷ t ∷ ts) = None
+-- a kind without a width, and one with a width
+abbrev pub kind_alone : List ℕ → Option KindTerm
+kind_alone k =
+    if is_word (codes "str") k then Some kinds.Str
+    else (if is_word (codes "int") k then Some kinds.Int
+    else (if is_word (codes "bool") k then Some kinds.Bool else None))
+
+abbrev pub kind_wide : List ℕ → Option ℤ → Option KindTerm
+kind_wide k width =
+    if is_word (codes "bytes") k then Some (kinds.Bytes width)
+    else (if is_word (codes "fixed") k then Some (kinds.Fixed width) else None)
+
+-- a kind, its width where it has one, and a length; none inside in place of a number that is no i64
+abbrev pub shape_of : List (List ℕ) → Option (KindTerm × Option ℤ)
+shape_of [] = None
+shape_of (k ∷ []) = None
+shape_of (k ∷ n ∷ []) = kind_alone k >>= λ kind. number_of n >>= λ len. Some (kind, len)
+shape_of (k ∷ w ∷ n ∷ []) = number_of w >>= λ width. kind_wide k width >>= λ kind. number_of n >>= λ len. Some (kind, len)
+shape_of (k ∷ w ∷ n ∷ t ∷ ts) = None
 
 -- what follows array: a name, the name of its home, its kind and its length
 abbrev pub array_of : List (List ℕ) → Option Statement
 array_of [] = None
 array_of (n ∷ []) = None
-array_of (n ∷ d ∷ ts) = name_of n >>= λ name. name_of d >>= λ home. length_of ts >>= λ len. Some (Array name home len)
+array_of (n ∷ d ∷ ts) = name_of n >>= λ name. name_of d >>= λ home. shape_of ts >>= λ shape. Some (Array name home shape.0 shape.1)
 
 -- what follows version: the number 2, spelled so
 abbrev pub version_of : List (List ℕ) → Option Statement

@@ -12,9 +12,9 @@ use Rattle.sa_call.specs.declared.call.Op.{Op}
 use Rattle.sa_call.specs.declared.call.Operand.{Operand}
 use Rattle.sa_call.specs.declared.call.Operand.TheVariants as operand
 use Rattle.sa_call.specs.declared.call.Call.{Call}
-use Rattle.sa_call.specs.declared.form.Sort.TheVariants as sort
 use Rattle.sa_call.specs.Forms.{on_descr, with_fill}
-use Rattle.sa_call.specs.Valid.{is_kind}
+use Rattle.sa_call.specs.Kinds.{are_values}
+use Rattle.sa_call.specs.Valid.{has_missing}
 use Rattle.sa_script.specs.declared.context.Context.{Context}
 use Rattle.sa_script.specs.declared.statement.Span.{Span}
 use Rattle.sa_script.specs.declared.statement.Span.TheVariants.{Whole, Strided, Slice}
@@ -142,11 +142,15 @@ fill_of (Flags flags) = None
 fill_of (Bytes rows) = None
 fill_of (Units rows) = None
 
+-- items are texts of which none is missing
+abbrev pub are_texts : Items → Bool
+are_texts items = are_values items && not (has_missing items)
+
 -- of a fill: it is of another kind than texts, or has a missing value; it is not one text of one code point
 abbrev pub term_miskinded : Term → Bool
 term_miskinded (term.View v) = false
 term_miskinded (term.List items) = false
-term_miskinded (term.Fill items) = not (is_kind sort.Texts (operand.Literal (given_items items)))
+term_miskinded (term.Fill items) = not (are_texts (given_items items))
 term_miskinded (term.Descr name) = false
 
 abbrev pub term_misfilled : Term → Bool

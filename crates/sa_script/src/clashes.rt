@@ -1,5 +1,5 @@
-ghost use Rattle.std.specs.Prelude.{◌≡◌, IfOk};
-ghost use Rattle.sa_call.specs.Calls.{homes_in};
+ghost use Rattle.std.specs.Prelude.{◌≡◌, ◌++◌, IfOk, OnOk};
+ghost use Rattle.sa_call.specs.Calls.{homes_in, strings_home};
 ghost use Rattle.sa_call.specs.Decls.{home_of};
 ghost use Rattle.sa_call.specs.Valid.{rules_fit};
 ghost use Rattle.sa_script.specs.Contexts.{declared_in};
@@ -30,21 +30,31 @@ impl Context {
         }
     }
 
-    /// The descriptors of a call's views: of the operands in order, then of the output.
+    /// The descriptors of a call's views of strings arrays: of the operands in order, then of the output.
     fn homes_in(&self, alloc: Global, call: &Call) -> Result<Vec<u8>, Memory>
         ensures { IfOk result (λ homes. homes.items ≡ homes_in (declared_in self.now) call.now) }
     {
         let mut homes = Vec::with_capacity(alloc, call.operands.len().saturating_add(1))?;
         for operand in call.operands.as_slice() {
             match operand {
-                Operand::View(view) => homes.push(self.home_at(view.array))?,
+                Operand::View(view) => self.push_home(&mut homes, view.array)?,
                 Operand::Literal(_) => {}
             }
         }
         if let Some(out) = &call.out {
-            homes.push(self.home_at(out.array))?;
+            self.push_home(&mut homes, out.array)?;
         }
         Ok(homes)
+    }
+
+    /// Puts the home of an array at the end, where it is a strings array.
+    fn push_home(&self, homes: &mut Vec<u8>, array: u32) -> Result<(), Memory>
+        ensures { OnOk result (homes.new.items ≡ homes.old.items ++ strings_home (declared_in self.now) array) }
+    {
+        if self.kind_of(array).is_strings() {
+            homes.push(self.home_at(array))?;
+        }
+        Ok(())
     }
 
     /// The home of an array by its number; that of no array is 0.

@@ -4,16 +4,16 @@ ghost use Rattle.sa_call.specs.Calls.{lengths_fit, operand_count};
 ghost use Rattle.sa_call.specs.Decls.{entries_of};
 ghost use Rattle.sa_call.specs.Valid.{IsLiteralOperand};
 ghost use Rattle.sa_script.specs.Contexts.{declared_in, home_number, is_known, descr_number};
-ghost use Rattle.sa_script.specs.Faults.{fault_of, has_tasks, is_long, passes_entries};
+ghost use Rattle.sa_script.specs.Faults.{fault_of, has_tasks, is_long, kind_passes, passes_entries, width_passes};
 ghost use Rattle.sa_script.specs.Resolving.{call_fault, IsMeant};
 ghost use Rattle.sa_script.specs.SoundContexts.{IsSoundContext};
 ghost use Rattle.sa_script.specs.declared.statement.Statement.{Statement};
 
 use crate::cause::Cause;
 use crate::context::Context;
-use crate::kinds::call_kinds_fit;
 use crate::name::Name;
 use crate::resolving::Resolved;
+use crate::statement::KindTerm;
 use sa_base::Memory;
 use sa_call::{ArrayDecl, Call, Operand};
 use sa_descr::NaRule;
@@ -28,6 +28,9 @@ const MOST_ARRAYS: usize = 64;
 
 /// The most entries of all arrays of one descriptor together.
 const MOST_ENTRIES: u64 = 8192;
+
+/// The widest a text of a fixed width may be.
+const MOST_WIDTH: i64 = 256;
 
 /// The most tasks of a script.
 const MOST_TASKS: usize = 64;
@@ -67,14 +70,20 @@ impl Context {
     }
 
     /// The first fault of an array.
-    pub fn array_fault(&self, name: &Name<'_>, home: &Name<'_>, len: Option<i64>) -> Option<Cause>
-        ensures { result ≡ fault_of self.now (Statement.Array name.now home.now len) }
+    pub fn array_fault(
+        &self,
+        name: &Name<'_>,
+        home: &Name<'_>,
+        kind: KindTerm,
+        len: Option<i64>,
+    ) -> Option<Cause>
+        ensures { result ≡ fault_of self.now (Statement.Array name.now home.now kind len) }
     {
         if self.ended || self.has_tasks() {
             Some(Cause::Order)
         } else if self.is_array_misnamed(name, home) {
             Some(Cause::Name)
-        } else if self.array_passes(name, home, len) {
+        } else if self.array_passes(name, home, kind, len) {
             Some(Cause::Limit)
         } else {
             None
@@ -122,7 +131,7 @@ impl Context {
             Ok(Some(Cause::Limit))
         } else if call.unfit {
             Ok(Some(Cause::View))
-        } else if call.miskinded || !call_kinds_fit(&call.call) {
+        } else if call.miskinded || !self.call_kinds_fit(&call.call) {
             Ok(Some(Cause::Kind))
         } else if !lengths_fit(alloc, &call.call)? {
             Ok(Some(Cause::Lengths))
@@ -148,12 +157,21 @@ impl Context {
         self.names.is_known(name) || self.names.descr_number(home).is_none()
     }
 
-    /// Whether an array's name is too long, there are as many arrays as may be, or its length passes
-    /// a limit.
-    fn array_passes(&self, name: &Name<'_>, home: &Name<'_>, len: Option<i64>) -> bool
-        ensures { result ≡ ((is_long name.now || nat_le 64 (length self.now.arrays)) || passes_entries (entries_of self.now.arrays (home_number self.now home.now)) len) }
+    /// Whether an array's name is too long, there are as many arrays as may be, or its width or its
+    /// length passes a limit.
+    fn array_passes(
+        &self,
+        name: &Name<'_>,
+        home: &Name<'_>,
+        kind: KindTerm,
+        len: Option<i64>,
+    ) -> bool
+        ensures { result ≡ (((is_long name.now || nat_le 64 (length self.now.arrays)) || kind_passes kind) || passes_entries (entries_of self.now.arrays (home_number self.now home.now)) len) }
     {
-        is_long(name) || self.arrays.len() >= MOST_ARRAYS || self.passes_entries(home, len)
+        is_long(name)
+            || self.arrays.len() >= MOST_ARRAYS
+            || kind_passes(kind)
+            || self.passes_entries(home, len)
     }
 
     /// Whether an array of this length has a length below 0 or no i64, or passes the limit of its
@@ -169,6 +187,25 @@ impl Context {
         };
         let home = self.names.descr_number(home).unwrap_or(0);
         passes(self.arrays.as_slice(), home, len)
+    }
+}
+
+/// Whether a kind has a width that is below 1, above the most or no i64.
+fn kind_passes(kind: KindTerm) -> bool
+    ensures { result ≡ kind_passes kind }
+{
+    match kind {
+        KindTerm::Str | KindTerm::Int | KindTerm::Bool => false,
+        KindTerm::Bytes(width) | KindTerm::Fixed(width) => width_passes(width),
+    }
+}
+
+fn width_passes(width: Option<i64>) -> bool
+    ensures { result ≡ width_passes width }
+{
+    match width {
+        Some(width) => width < 1 || width > MOST_WIDTH,
+        None => true,
     }
 }
 

@@ -8,8 +8,10 @@
 //! | `version 2` | the script is of version 2. It stands before every other statement; without it the version is 1 |
 //! | `descr NAME RULE` | a descriptor. RULE is `absent`, `nan`, `other` or `text TEXT`; `coerce` or `strict` may follow, and without them it coerces |
 //! | `array NAME DESCR str N` | a strings array of length N, whose home is the descriptor DESCR |
+//! | `array NAME DESCR int N`, `array NAME DESCR bool N` | an array of N numbers, or of N truth values |
+//! | `array NAME DESCR bytes W N`, `array NAME DESCR fixed W N` | an array of N texts of W bytes, or of W units |
 //! | `task` | the next task begins |
-//! | `set VIEW LIST` | a call that puts the texts and missing values of LIST into a view |
+//! | `set VIEW LIST` | a call that puts the items of LIST into a view |
 //! | `copy VIEW into VIEW` | a call that puts the items of the first view into the second |
 //! | `show VIEW` | a call that answers the items of a view |
 //! | `add T T` | a call that makes two texts one |
@@ -33,10 +35,20 @@
 //! | `NAME[start,count,step]` | those at start, start + step and so on, count of them |
 //! | `NAME[from:to]`, `NAME[from:to:step]` | those of Python's slice; each number may be left out. In version 2 alone |
 //!
-//! A LIST is one item, or items in brackets with commas between them, without blanks: texts and `na`, or
-//! numbers. T is a view or a list of texts, and I a list of numbers. The lines of calls that make texts may go on
-//! with `into VIEW`; behind one that tells numbers or truth values an output is of the wrong kind. Where
-//! operands may follow they are left out before the word `into` and at the end of the line.
+//! A LIST is one item, or items in brackets with commas between them, without blanks, all of one kind:
+//!
+//! | items | spelling |
+//! |---|---|
+//! | texts and missing values | a text in quotes, and `na` |
+//! | numbers | an optional `-` and digits |
+//! | truth values | `true` and `false` |
+//! | byte texts | `hex:` and two hexadecimal digits for each byte |
+//! | unicode texts | `units:` and one to eight hexadecimal digits for each unit, with `.` between two |
+//!
+//! Hexadecimal digits are of either case here, and a text may have no byte and no unit. T is a view of a strings
+//! array or a list of texts, and I a view of an array of numbers or a list of numbers. The lines of calls that
+//! make texts, or tell numbers or truth values, may go on with `into VIEW`, a view of an array that holds such.
+//! Where operands may follow they are left out before the word `into` and at the end of the line.
 //!
 //! One item of a list or a view is put into each place of an output. Calls are read by the table of
 //! calls (`sa_call::Op::form`). Declarations stand before the first task, and calls in a task. Bytes that
@@ -49,16 +61,17 @@
 //! | 2 | it is no statement: an unknown first word, a wrong number of tokens, or a token of no fitting spelling; a slice in version 1, or `version 2` behind another statement |
 //! | 3 | a declaration after the first task, a call before it, or a statement after the end |
 //! | 4 | a name that is declared already, or used and not declared, or declared as the other sort |
-//! | 5 | a limit is passed, a length is below 0, or a number is no i64 |
+//! | 5 | a limit is passed, a length is below 0, a width is below 1, or a number is no i64 |
 //! | 6 | a view is none of its array: start or count is no u32, the step is no i32, that of a slice is 0, or it does not fit |
-//! | 7 | an operand, the fill or the output is of another kind than the call takes or gives, or has `na` where only `set` may have it |
+//! | 7 | an operand, the fill or the output is of another kind than the call takes or gives, or has `na` where only `set` on a strings array may have it; a text is wider than the array it is put into, or two arrays have other widths |
 //! | 8 | the count of an operand is neither 1 nor the output's |
-//! | 9 | two descriptors of the views of a call, its output included, have rules that are not `absent` and differ; `set`, `copy` and `show` do not ask |
+//! | 9 | two descriptors of the views of strings arrays of a call, its output included, have rules that are not `absent` and differ; `set`, `copy` and `show` do not ask |
 //! | 10 | the fill is not one text of one code point |
 //! | 11 | there is no end; the line is the last one, 0 where there is none |
 //!
 //! The limits are 8 descriptors, 64 arrays, 8,192 entries of all arrays of a descriptor together, 64
-//! tasks, 1,024 calls, 8,192 items of a list, 65,536 bytes of a text, and 32 bytes of a declared name.
+//! tasks, 1,024 calls, 8,192 items of a list, 65,536 bytes of a text, 32 bytes of a declared name, and a width
+//! of 256.
 //!
 //! Contracts see a script as its version, its declarations, their names and its tasks' calls. `parse`
 //! answers the script or the fault that the definition of a script's meaning gives, or that there is no
@@ -71,11 +84,13 @@ mod clashes;
 mod context;
 mod fault;
 mod faults;
+mod fixed_text;
 mod item;
+mod item_kind;
 mod kinds;
+mod list;
 mod name;
 mod names;
-mod number_list;
 mod parsing;
 mod reading;
 mod resolving;

@@ -1,7 +1,7 @@
 ghost use Rattle.std.specs.Prelude.{◌≡◌, ◌<◌, ◌∷◌, ◌++◌, [], IfOk, OnOk, Option, Some, None, false};
 ghost use Rattle.std.specs.Str.{is_utf8};
-ghost use Rattle.sa_script.specs.Contexts.{nothing, with_descr, with_array, with_last, with_call, home_number, length_allowed};
-ghost use Rattle.sa_script.specs.Faults.{code_of, passes_entries};
+ghost use Rattle.sa_script.specs.Contexts.{nothing, with_descr, with_array, with_last, with_call, home_number, kind_in, length_allowed, width_allowed};
+ghost use Rattle.sa_script.specs.Faults.{code_of, kind_passes, passes_entries, width_passes};
 ghost use Rattle.sa_script.specs.Scripts.{GivesScript, meaning, unless_fault, line_after, statement_after, script_value};
 ghost use Rattle.sa_script.specs.SoundContexts.{IsSoundContext};
 ghost use Rattle.sa_script.specs.Spelled.{IsSpelled, IsLine};
@@ -14,11 +14,12 @@ use crate::names::Names;
 use crate::reading::statement_of;
 use crate::resolving::has_slices;
 use crate::script::Script;
-use crate::statement::{Line, Statement};
+use crate::statement::{KindTerm, Line, Statement};
 use sa_base::{Memory, Sequence};
 use sa_call::{ArrayDecl, Call, CallList, Decls, Kind, TaskList};
 use sa_descr::{Descr, NaRule};
 use sa_lines::{cut_line, is_skipped};
+use sa_plain::PlainKind;
 use std::alloc::Global;
 
 /// The script that the bytes are: its version, declarations, names and calls. Otherwise the least faulty line,
@@ -105,7 +106,9 @@ impl Context {
         match statement {
             Statement::Version => Ok(self.take_version()),
             Statement::Descr(name, rule, coerce) => self.take_descr(alloc, &name, rule, coerce),
-            Statement::Array(name, home, len) => self.take_array(alloc, &name, &home, len),
+            Statement::Array(name, home, kind, len) => {
+                self.take_array(alloc, &name, &home, kind, len)
+            }
             Statement::Task => self.take_task(alloc),
             Statement::Call(line) => self.take_call(alloc, line),
             Statement::End => Ok(self.take_end()),
@@ -148,16 +151,17 @@ impl Context {
         alloc: Global,
         name: &Name<'_>,
         home: &Name<'_>,
+        kind: KindTerm,
         len: Option<i64>,
     ) -> Result<Option<Cause>, Memory>
         requires { IsSoundContext self.old }
-        ensures { IfOk result (λ fault. statement_after self.old (Some (Statement.Array name.now home.now len)) ≡ unless_fault self.new fault) }
+        ensures { IfOk result (λ fault. statement_after self.old (Some (Statement.Array name.now home.now kind len)) ≡ unless_fault self.new fault) }
     {
-        if let Some(fault) = self.array_fault(name, home, len) {
+        if let Some(fault) = self.array_fault(name, home, kind, len) {
             return Ok(Some(fault));
         }
         let home = self.home_of(home);
-        self.add_array(alloc, name, home, length_allowed(len))?;
+        self.add_array(alloc, name, home, kind_in(kind), length_allowed(len))?;
         self.begun = true;
         Ok(None)
     }
@@ -223,17 +227,13 @@ impl Context {
         alloc: Global,
         name: &Name<'_>,
         home: u8,
+        kind: Kind,
         len: u32,
     ) -> Result<(), Memory>
-        ensures { OnOk result (self.new ≡ with_array self.old name.now home len) }
+        ensures { OnOk result (self.new ≡ with_array self.old name.now home kind len) }
     {
         self.names.add_array(alloc, name)?;
-        let array = ArrayDecl {
-            home,
-            kind: Kind::Str,
-            len,
-        };
-        self.arrays.push(array)?;
+        self.arrays.push(ArrayDecl { home, kind, len })?;
         Ok(())
     }
 
@@ -282,6 +282,31 @@ fn is_text(line: &[u8]) -> bool
     ensures { result ≡ is_utf8 line.now }
 {
     simdutf8::is_utf8(line)
+}
+
+/// The kind of an array without a fault.
+fn kind_in(kind: KindTerm) -> Kind
+    requires { kind_passes kind ≡ false }
+    ensures { result ≡ kind_in kind }
+{
+    match kind {
+        KindTerm::Str => Kind::Str,
+        KindTerm::Int => Kind::Plain(PlainKind::Int),
+        KindTerm::Bool => Kind::Plain(PlainKind::Bool),
+        KindTerm::Bytes(width) => Kind::Plain(PlainKind::Bytes(width_allowed(width))),
+        KindTerm::Fixed(width) => Kind::Plain(PlainKind::Fixed(width_allowed(width))),
+    }
+}
+
+/// The width of an array without a fault.
+fn width_allowed(width: Option<i64>) -> u16
+    requires { width_passes width ≡ false }
+    ensures { result ≡ width_allowed width }
+{
+    match width {
+        Some(width) => width as u16,
+        None => 0,
+    }
 }
 
 /// The length of an array without a fault.

@@ -1,11 +1,12 @@
 ghost use Rattle.std.specs.Prelude.{◌≡◌, Option, option_map, ◌++◌, IfOk, OnOk, Some, None, MatchOption};
 ghost use Rattle.sa_lines.specs.Tokens.{tokens_of};
 ghost use Rattle.sa_script.specs.Items.{list_of};
-ghost use Rattle.sa_script.specs.Statements.{statement_of, version_of, descr_of, array_of, call_of, rule_of, text_rule_of, coerce_of, length_of, alone, front_of, term_of, terms_of, is_over, left_out, behind_terms, operands_of, list_or_view, into_of, may_into, behind_of};
+ghost use Rattle.sa_script.specs.Statements.{statement_of, version_of, descr_of, array_of, call_of, rule_of, text_rule_of, coerce_of, kind_alone, kind_wide, shape_of, alone, front_of, term_of, terms_of, is_over, left_out, behind_terms, operands_of, list_or_view, into_of, may_into, behind_of};
 
-use crate::item::{list_of, text_token};
+use crate::item::text_token;
+use crate::list::list_of;
 use crate::name::name_of;
-use crate::statement::{Line, Statement, Term, ViewTerm};
+use crate::statement::{KindTerm, Line, Statement, Term, ViewTerm};
 use crate::view::view_of;
 use sa_base::{Memory, Sequence};
 use sa_call::{IntList, Into, Items, Op, Sort};
@@ -149,20 +150,52 @@ fn array_of(line: &[u8]) -> Option<Statement<'_>>
     let (home_token, rest) = next_token(rest)?;
     let name = name_of(token)?;
     let home = name_of(home_token)?;
-    let len = length_of(rest)?;
-    Some(Statement::Array(name, home, len))
+    let (kind, len) = shape_of(rest)?;
+    Some(Statement::Array(name, home, kind, len))
 }
 
-/// A kind and a length.
-fn length_of(line: &[u8]) -> Option<Option<i64>>
-    ensures { result ≡ length_of (tokens_of line.now) }
+/// A kind, its width where it has one, and a length.
+fn shape_of(line: &[u8]) -> Option<(KindTerm, Option<i64>)>
+    ensures { result ≡ shape_of (tokens_of line.now) }
 {
-    let (kind, rest) = next_token(line)?;
-    let (len, rest) = next_token(rest)?;
-    if next_token(rest).is_some() || !is_word(b"str", kind) {
+    let (word, rest) = next_token(line)?;
+    let (number, rest) = next_token(rest)?;
+    let Some((len, rest)) = next_token(rest) else {
+        return Some((kind_alone(word)?, number_of(number)?));
+    };
+    if next_token(rest).is_some() {
         return None;
     }
-    number_of(len)
+    let width = number_of(number)?;
+    Some((kind_wide(word, width)?, number_of(len)?))
+}
+
+/// A kind without a width.
+fn kind_alone(word: &[u8]) -> Option<KindTerm>
+    ensures { result ≡ kind_alone word.now }
+{
+    if is_word(b"str", word) {
+        Some(KindTerm::Str)
+    } else if is_word(b"int", word) {
+        Some(KindTerm::Int)
+    } else if is_word(b"bool", word) {
+        Some(KindTerm::Bool)
+    } else {
+        None
+    }
+}
+
+/// A kind with a width.
+fn kind_wide(word: &[u8], width: Option<i64>) -> Option<KindTerm>
+    ensures { result ≡ kind_wide word.now width }
+{
+    if is_word(b"bytes", word) {
+        Some(KindTerm::Bytes(width))
+    } else if is_word(b"fixed", word) {
+        Some(KindTerm::Fixed(width))
+    } else {
+        None
+    }
 }
 
 /// What follows `version`: the number 2, spelled so.

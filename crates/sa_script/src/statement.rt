@@ -12,14 +12,29 @@ pub enum Statement<'a> {
     Version,
     /// A descriptor: its name, its rule, and whether it coerces.
     Descr(Name<'a>, Option<NaRule>, bool),
-    /// A strings array: its name, the name of its home, and its length.
-    Array(Name<'a>, Name<'a>, Option<i64>),
+    /// An array: its name, the name of its home, its kind, and its length.
+    Array(Name<'a>, Name<'a>, KindTerm, Option<i64>),
     /// The next task begins.
     Task,
     /// A call of the task.
     Call(Line<'a>),
     /// The script ends.
     End,
+}
+
+/// The kind of an array; a width that is no i64 is none.
+#[derive(Clone, Copy, Debug)]
+pub enum KindTerm {
+    /// Values.
+    Str,
+    /// Numbers.
+    Int,
+    /// Truth values.
+    Bool,
+    /// Byte texts of this width.
+    Bytes(Option<i64>),
+    /// Unicode texts of this width.
+    Fixed(Option<i64>),
 }
 
 /// A call's line: what it does, its operands in order, and its output.

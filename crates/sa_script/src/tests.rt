@@ -1,6 +1,7 @@
 mod limits;
 mod making;
 mod meaning;
+mod plain;
 mod telling;
 mod views;
 
@@ -189,7 +190,7 @@ ok array add d str 1
 2:3 array b d str
 2:3 array b d 1
 2:3 array b d str 1 1
-2:3 array b d int 1
+ok array b d int 1
 2:3 array b d str +1
 2:3 array b d str 1x
 2:3 array b d str -
@@ -253,8 +254,8 @@ ok image d
 2:6 set a na na
 2:6 set na na
 7:6 set a 5
-2:6 set a true
-2:6 set a hex:00
+7:6 set a true
+7:6 set a hex:00
 2:6 set a (na,5)
 2:6 set a ()
 2:6 set a (na,)

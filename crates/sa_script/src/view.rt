@@ -20,6 +20,7 @@ pub fn view_of(token: &[u8]) -> Option<ViewTerm<'_>>
 pub fn cut_at(mark: u8, bytes: &[u8]) -> (&[u8], Option<&[u8]>)
     ensures before { result.0.now ≡ (cut_at mark bytes.now).0 }
     ensures behind { option_map (λ r. r.now) result.1 ≡ (cut_at mark bytes.now).1 }
+    ensures shorter { IfSome result.1 (λ r. length r.now < length bytes.now) }
 {
     match place_of(mark, bytes) {
         Some(k) => (&bytes[..k], Some(&bytes[k + 1..])),

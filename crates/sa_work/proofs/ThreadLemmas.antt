@@ -1,5 +1,5 @@
 -- A run in threads: its passes, and what is gathered at the end.
-use Rattle.std.proofs.Common.{◌≡◌, ◌≤◌, ◌<◌, ◌+◌, ℕ, zero, suc, Bool, true, false, cond, nat_lt, List, [], ◌∷◌, length, map, replicate, get_or, Option, Some, None, Result, Ok, Err, refl, sym, ap, ◌∙◌, subst, arith}
+use Rattle.std.proofs.Common.{◌≡◌, ◌≤◌, ◌<◌, ◌+◌, ℕ, zero, suc, Bool, true, false, cond, nat_lt, List, [], ◌∷◌, length, map, replicate, get_or, slice_get, Option, Some, None, Result, Ok, Err, refl, sym, ap, ◌∙◌, subst, arith}
 use Rattle.std.specs.List.{All, AllByRecursion, AllZip, range_with_len}
 use Rattle.std.proofs.lemmas.Bool.{false≢true, lt-ltb, ltb-true}
 use Rattle.std.proofs.lemmas.List.{length-replicate}
@@ -22,6 +22,7 @@ use Rattle.sa_hall.specs.Passes.{Passed, PassValue}
 use Rattle.sa_loop.specs.declared.act.Act.{Act}
 use Rattle.sa_loop.specs.Acts.{act_said}
 use Rattle.sa_loop.specs.Held.{IsPlay}
+use Rattle.sa_loop.specs.Gathers.{plain_in}
 use Rattle.sa_loop.specs.Histories.{no_call}
 use Rattle.sa_loop.specs.Locked.{shape_in}
 use Rattle.sa_loop.specs.OneHistory.{AreEnded, AreOneHistory, IsAt, IsDoneTo, flag_at}
@@ -33,7 +34,7 @@ use Rattle.sa_loop.proofs.HistoryLemmas.{one-history}
 use Rattle.sa_loop.proofs.OpenLemmas.{many-shapes, shape-at}
 use Rattle.sa_script.specs.Scripts.{ScriptValue}
 use Rattle.sa_work.specs.Crews.{AreDone, IsDone, IsReady, calls_at}
-use Rattle.sa_work.specs.Threads.{flags_of, layouts_of}
+use Rattle.sa_work.specs.Threads.{flags_of, holds_of}
 
 -- an element that is there, whatever stands in for one that is not
 pub there : {A : Type 0} (xs : List A) (k : ℕ) (x d : A) → k < length xs → x ≡ get_or xs k x → x ≡ get_or xs k d
@@ -188,12 +189,20 @@ listed-at f g n d same below =
 
 -- the store of a descriptor, by its number
 
-pub store-none : (its : List (Option (Kept Act))) (n d : ℕ) → ((e : ℕ) → is_held (held_at its e) ≡ nat_lt e n) → held_at its d ≡ None → None ≡ cond (nat_lt d n) (Some (layouts_of its d)) None
-store-none its n d there none = ap (λ (b : Bool). cond b (Some (layouts_of its d)) None) (ap is_held (sym none) ∙ there d)
+pub store-none : (its : List (Option (Kept Act))) (n d : ℕ) → ((e : ℕ) → is_held (held_at its e) ≡ nat_lt e n) → held_at its d ≡ None → None ≡ cond (nat_lt d n) (Some (holds_of its d).layout) None
+store-none its n d there none = ap (λ (b : Bool). cond b (Some (holds_of its d).layout) None) (ap is_held (sym none) ∙ there d)
 
-pub store-some : (its : List (Option (Kept Act))) (n d : ℕ) (k : Kept Act) → ((e : ℕ) → is_held (held_at its e) ≡ nat_lt e n) → held_at its d ≡ Some k → Some k.contents.layout ≡ cond (nat_lt d n) (Some (layouts_of its d)) None
+pub store-some : (its : List (Option (Kept Act))) (n d : ℕ) (k : Kept Act) → ((e : ℕ) → is_held (held_at its e) ≡ nat_lt e n) → held_at its d ≡ Some k → Some k.contents.layout ≡ cond (nat_lt d n) (Some (holds_of its d).layout) None
 store-some its n d k there some =
-    ap (λ (o : Option (Kept Act)). Some (contents_in o).layout) (sym some) ∙ ap (λ (b : Bool). cond b (Some (layouts_of its d)) None) (ap is_held (sym some) ∙ there d)
+    ap (λ (o : Option (Kept Act)). Some (contents_in o).layout) (sym some) ∙ ap (λ (b : Bool). cond b (Some (holds_of its d).layout) None) (ap is_held (sym some) ∙ there d)
+
+-- and its plain arrays
+pub plain-none : (its : List (Option (Kept Act))) (n d k : ℕ) → ((e : ℕ) → is_held (held_at its e) ≡ nat_lt e n) → held_at its d ≡ None → None ≡ plain_in n (holds_of its) d k
+plain-none its n d k there none = ap (λ (b : Bool). cond b (slice_get (holds_of its d).plains k) None) (ap is_held (sym none) ∙ there d)
+
+pub plain-some : (its : List (Option (Kept Act))) (n d k : ℕ) (it : Kept Act) → ((e : ℕ) → is_held (held_at its e) ≡ nat_lt e n) → held_at its d ≡ Some it → slice_get it.contents.plains k ≡ plain_in n (holds_of its) d k
+plain-some its n d k it there some =
+    ap (λ (o : Option (Kept Act)). slice_get (contents_in o).plains k) (sym some) ∙ ap (λ (b : Bool). cond b (slice_get (holds_of its d).plains k) None) (ap is_held (sym some) ∙ there d)
 
 pub store-below : (its : List (Option (Kept Act))) (n d : ℕ) (k : Kept Act) → ((e : ℕ) → is_held (held_at its e) ≡ nat_lt e n) → held_at its d ≡ Some k → d < n
 store-below its n d k there some = ltb-true d n (sym (there d) ∙ ap is_held some)

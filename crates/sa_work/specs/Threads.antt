@@ -1,6 +1,6 @@
 -- What a run in threads gathered, member by member.
 use Rattle.std.specs.Prelude.{ℕ, Bool, List, [], map, slice_index_or}
-use Rattle.sa_alloc.specs.Layouts.{Layout}
+use Rattle.sa_hall.specs.Contents.{Contents}
 use Rattle.sa_hall.specs.Domains.{Kept}
 use Rattle.sa_hall.specs.Holds.{contents_at}
 use Rattle.sa_hall.specs.Passes.{PassValue}
@@ -16,6 +16,6 @@ flags_of passes t = slice_index_or (map (λ (p : PassValue Act). p.it.marks) pas
 abbrev pub marks_of : List (PassValue Act) → ℕ → ℕ → Bool
 marks_of passes t k = flag_at (flags_of passes t) k
 
--- the layout of a descriptor, by its number
-abbrev pub layouts_of : List (Option (Kept Act)) → ℕ → Layout
-layouts_of its d = (contents_at its d).layout
+-- what a descriptor holds, by its number
+abbrev pub holds_of : List (Option (Kept Act)) → ℕ → Contents
+holds_of its d = contents_at its d

@@ -9,13 +9,14 @@ ghost use Rattle.sa_loop.specs.Orders.{line_call, line_reply};
 ghost use Rattle.sa_loop.specs.Plays.{play_replies, play_world};
 ghost use Rattle.sa_loop.specs.Runs.{shown};
 ghost use Rattle.sa_loop.specs.States.{lengths_of};
-ghost use Rattle.sa_work.specs.Threads.{layouts_of};
+ghost use Rattle.sa_work.specs.Threads.{holds_of};
 
 use sa_alloc::Store;
 use sa_call::Decls;
 use sa_hall::{Pass, Quiet};
 use sa_journal::Ended;
 use sa_loop::{Act, Gathered};
+use sa_plain::Plain;
 
 /// A run in threads: the ended journal, the descriptors that it leaves, and the passes of its tasks with
 /// their marks. Every such run keeps that the replies of its lines and its descriptors are those of the play
@@ -27,9 +28,9 @@ pub struct Threaded<'s> {
     pub(crate) quiet: Quiet<Act<'s>>,
     pub(crate) passes: Vec<Pass<Act<'s>>>,
     ghost there: { (d : ℕ) → is_held (held_at quiet d) ≡ nat_lt d (length decls.now.descrs) } by { Prim.hlevel props },
-    ghost shaped: { map (λ d. (layouts_of quiet d).lengths) (range_with_len 0 (length decls.now.descrs)) ≡ map (lengths_of decls.now) (range_with_len 0 (length decls.now.descrs)) },
+    ghost shaped: { map (λ d. (holds_of quiet d).layout.lengths) (range_with_len 0 (length decls.now.descrs)) ≡ map (lengths_of decls.now) (range_with_len 0 (length decls.now.descrs)) },
     ghost replied: { map line_reply ended.lines ≡ play_replies decls.now (map line_call ended.lines) },
-    ghost left: { map (λ d. shown (layouts_of quiet d)) (range_with_len 0 (length decls.now.descrs)) ≡ map (play_world decls.now (map line_call ended.lines)) (range_with_len 0 (length decls.now.descrs)) },
+    ghost left: { map (λ d. shown (holds_of quiet d)) (range_with_len 0 (length decls.now.descrs)) ≡ map (play_world decls.now (map line_call ended.lines)) (range_with_len 0 (length decls.now.descrs)) },
 }
 
 impl Threaded<'_> {
@@ -43,7 +44,7 @@ impl<'s> Gathered for Threaded<'s> {
     ghost use Rattle.sa_loop.specs.OneHistory.{line_pair};
     ghost use Rattle.sa_loop.specs.OneHistory.{flag_at};
     ghost use Rattle.sa_loop.specs.Orders.{line_call, line_reply};
-    ghost use Rattle.sa_work.specs.Threads.{layouts_of, marks_of};
+    ghost use Rattle.sa_work.specs.Threads.{holds_of, marks_of};
 
     ghost declared = { λ t. t.decls.now };
 
@@ -55,7 +56,7 @@ impl<'s> Gathered for Threaded<'s> {
 
     ghost marks = { λ t. marks_of t.passes.items };
 
-    ghost layouts = { λ t. layouts_of t.quiet };
+    ghost holds = { λ t. holds_of t.quiet };
 
     fn count(&self) -> u64 {
         self.ended.count()
@@ -77,6 +78,18 @@ impl<'s> Gathered for Threaded<'s> {
         let domain = self.quiet.domain(number)?;
         Some(domain.store())
     }
+
+    fn plain(&self, number: u8, k: u32) -> Option<&Plain> {
+        let domain = self.quiet.domain(number)?;
+        plain_of(domain.plains(), k as usize)
+    }
+}
+
+/// The plain array of a number, if there is one.
+fn plain_of(plains: &[Plain], k: usize) -> Option<&Plain>
+    ensures { option_copied result ≡ slice_get plains.now k }
+{
+    plains.get(k)
 }
 
 /// Whether a call is marked in a pass; not where the task has no such call.

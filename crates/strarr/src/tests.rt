@@ -75,6 +75,21 @@ fn scripts_have_their_reports(rt: HostRuntime) -> Result<(), Memory> {
 }
 
 #[test]
+fn plain_arrays_have_their_reports(rt: HostRuntime) -> Result<(), Memory> {
+    let cases: [(&[u8], &[u8]); 2] = [
+        (
+            b"descr d nan\narray a d str 2\narray f d bool 2\ntask\nset a (\"b\",na)\nless a \"c\" into f\nshow f\nend\n",
+            b"report 1\nhistory 0:0 0:1 0:2\nmarked\ntask 0\n0 done\n1 done\n2 shown (true,false)\narray a (\"b\",na)\narray f (true,false)\nstats d cursor 0 live 0 dead 0 outside 0\nend\n",
+        ),
+        (
+            b"descr d absent\ndescr e text \"-\"\narray n e int 2\narray b d bytes 2 1\narray u e fixed 2 0\ntask\ncount (\"aa\",\"b\") \"a\" into n\nmultiply \"x\" n\nset b hex:0A\nend\n",
+            b"report 1\nhistory 0:0 0:1 0:2\nmarked\ntask 0\n0 done\n1 shown (\"xx\",\"\")\n2 done\narray n (2,0)\narray b (hex:0a00)\narray u ()\nstats d cursor 0 live 0 dead 0 outside 0\nstats e cursor 0 live 0 dead 0 outside 0\nend\n",
+        ),
+    ];
+    answers(&rt, rt.alloc(), Status::Done, &cases)
+}
+
+#[test]
 fn texts_lie_where_the_layout_puts_them(rt: HostRuntime) -> Result<(), Memory> {
     let cases: [(&[u8], &[u8]); 3] = [
         (
@@ -191,8 +206,8 @@ fn a_script_has_at_most_4194304_bytes(rt: HostRuntime) -> Result<(), Fail> {
     let (status, written) = serial(rt.alloc(), long.as_slice())?;
     assert_eq!(rt; status, Status::LongScript);
     assert_eq!(rt; written.len(), 0);
-    let mut most = vec![in rt.alloc(); b'\n'; 4_194_300]?;
-    most.extend_from_slice(b"end\n")?;
+    let mut most = vec![in rt.alloc(); b'#'; 4_194_299]?;
+    most.extend_from_slice(b"\nend\n")?;
     let (status, written) = serial(rt.alloc(), most.as_slice())?;
     assert_eq!(rt; status, Status::Done);
     assert_eq!(rt;

@@ -70,11 +70,13 @@ fn other_words_are_those_of_the_run_that_waits_for_nobody(rt: HostRuntime) -> Re
     Ok(())
 }
 
-/// Two arrays of two descriptors.
+/// Two descriptors, each with a strings array and a plain one.
 const TWO: &[u8] = b"descr d nan
 descr e nan
 array a d str 2
 array b e str 2
+array n d int 2
+array f e bool 2
 ";
 
 /// Two tasks of so many calls, each of which adds across the descriptors.
@@ -102,10 +104,10 @@ fn calls_of<'a>(alloc: Global, lines: &[&'a [u8]]) -> Result<Vec<&'a [u8]>, Memo
 
 /// Four tasks, of which each call is on one or on both descriptors, and three show what they find.
 fn showing<'a>(alloc: Global) -> Result<Tasks<'a>, Memory> {
-    let first: [&'a [u8]; 3] = [b"set a \"x\"", b"add b \"1\" into a", b"add a b into b"];
-    let second: [&'a [u8]; 3] = [b"set b \"y\"", b"add a \"2\" into b", b"add b a into a"];
-    let third: [&'a [u8]; 3] = [b"show a", b"add a b into a", b"show b"];
-    let fourth: [&'a [u8]; 3] = [b"show b", b"stats e", b"show a"];
+    let first: [&'a [u8]; 3] = [b"set a \"x\"", b"add b \"1\" into a", b"find a b into n"];
+    let second: [&'a [u8]; 3] = [b"set b \"y\"", b"add a \"2\" into b", b"equal b a into f"];
+    let third: [&'a [u8]; 3] = [b"show a", b"multiply a n into b", b"show f"];
+    let fourth: [&'a [u8]; 3] = [b"show b", b"stats e", b"show n"];
     let mut tasks = Vec::new(alloc);
     tasks.push(calls_of(alloc, &first)?)?;
     tasks.push(calls_of(alloc, &second)?)?;
@@ -146,7 +148,7 @@ fn line_count(bytes: &[u8]) -> usize {
     count
 }
 
-/// What is not so of a run of a script of two arrays and two descriptors by so many workers: it does all
+/// What is not so of a run of a script of four arrays and two descriptors by so many workers: it does all
 /// calls once and in order, marks none, and tells what its own order gives. The empty text where all is so.
 fn fault_of_play<R: Threads + Wait + Sync>(
     rt: &R,
@@ -170,7 +172,7 @@ fn fault_of_play<R: Threads + Wait + Sync>(
         return Ok("the order");
     }
     // a line for each call, array and descriptor
-    if line_count(told.as_slice()) != count.wrapping_add(4) {
+    if line_count(told.as_slice()) != count.wrapping_add(6) {
         return Ok("what is told");
     }
     if told.as_slice() != anew.as_slice() {

@@ -1,17 +1,20 @@
 -- The columns that are lent are those that were read.
-use Rattle.std.proofs.Common.{◌≡◌, ◌≤◌, List, length, map, IfOk, sym, ap, ◌∙◌, subst, arith, Bor}
+use Rattle.std.proofs.Common.{◌≡◌, ◌≤◌, true, is_some, List, length, map, IfOk, sym, ap, ◌∙◌, subst, arith, Bor}
 use Rattle.std.proofs.lemmas.List.{length-map}
 use Rattle.std.proofs.lemmas.List.Elements.{All-from_recursion}
-use Rattle.sa_plain.specs.Items.{count_of}
+use Rattle.std.proofs.lemmas.Result.{MatchResult-weaker}
+use Rattle.sa_plain.specs.Items.{count_of, items_of}
 use Rattle.sa_plain.specs.declared.items.Items.{Items}
 use Rattle.sa_call.specs.declared.call.Operand.{Operand}
 use Rattle.sa_call.specs.declared.reply.Outcome.{Outcome}
 use Rattle.sa_call.specs.Calls.{operand_count}
-use Rattle.sa_call.specs.Columns.{columns_read}
-use Rattle.sa_call.specs.Valid.{all_values}
-use Rattle.sa_call.proofs.ColumnLemmas.{columns-few, lent-counts, outcome-lent}
+use Rattle.sa_call.specs.Columns.{columns_read, AreColumns}
+use Rattle.sa_call.proofs.ColumnLemmas.{columns-are, columns-few, lent-counts, outcome-lent}
 use Rattle.sa_call.proofs.CountLemmas.{operands-few}
-use Rattle.sa_call.proofs.OpLemmas.{few-operands, moves, moved-values, on-items}
+use Rattle.sa_call.specs.Forms.{entry}
+use Rattle.sa_call.specs.Kinds.{output_fits}
+use Rattle.sa_call.proofs.KindLemmas.{made-fits, outcome-computed}
+use Rattle.sa_call.proofs.OpLemmas.{computes, few-operands, moves, on-items}
 use Rattle.sa_call.proofs.evaluating.evaluate_items.Goals as goal
 
 pub columns_weight-weight-requires-clause-few : goal.columns_weight-weight-requires-clause-few
@@ -46,27 +49,37 @@ moved-requires-clause-counts c =
     let read : map (λ (r : Bor Items). r.now) lent ≡ columns_read call.operands c.args.lists.now = ap (map (λ (r : Bor Items). r.now)) c.as_slice-columns.ensures.value ∙ all in
     lent-counts (λ (r : Bor Items). r.now) lent call.operands c.args.lists.now read c.requires.lists
 
-pub moved-requires-clause-values : goal.moved-requires-clause-values
-moved-requires-clause-values c =
+pub moved-requires-clause-columns : goal.moved-requires-clause-columns
+moved-requires-clause-columns c =
     let call = c.args.call.now in
     let all = c.in_ok-columns.ensures ∙ ap (λ (os : List Operand). columns_read os c.args.lists.now) c.as_slice.ensures in
     let lent : List (Bor Items) = c.as_slice-columns.result.now in
     let read : map (λ (r : Bor Items). r.now) lent ≡ columns_read call.operands c.args.lists.now = ap (map (λ (r : Bor Items). r.now)) c.as_slice-columns.ensures.value ∙ all in
-    let is = moves call.op (on-items call.op c.requires.items) (sym c.form.ensures.group ∙ c.in-None.is) in
-    ap all_values read ∙ moved-values call.op call.operands c.args.lists.now is c.requires.call.sorts c.requires.call.kinds c.requires.values
+    subst (λ (cs : List Items). AreColumns c.args.decls.now call.operands cs) (sym read) (columns-are c.args.decls.now call.operands c.args.lists.now c.requires.lists c.requires.fit)
 
-pub returns-in-None : goal.returns-in-None
-returns-in-None c =
+pub returns-in-None-clause-outcome : goal.returns-in-None-clause-outcome
+returns-in-None-clause-outcome c =
     let call = c.args.call.now in
     let all = c.in_ok-columns.ensures ∙ ap (λ (os : List Operand). columns_read os c.args.lists.now) c.as_slice.ensures in
     let lent : List (Bor Items) = c.as_slice-columns.result.now in
     let read : map (λ (r : Bor Items). r.now) lent ≡ columns_read call.operands c.args.lists.now = ap (map (λ (r : Bor Items). r.now)) c.as_slice-columns.ensures.value ∙ all in
-    subst (λ (x : Outcome). IfOk c.moved.result (λ o. o ≡ x)) (outcome-lent c.args.decls.now call (λ (r : Bor Items). r.now) lent c.args.lists.now c.columns_weight-weight.result read c.columns_weight-weight.ensures (omega arith)) c.moved.ensures
+    subst (λ (x : Outcome). IfOk c.moved.result (λ o. o ≡ x)) (outcome-lent c.args.decls.now call (λ (r : Bor Items). r.now) lent c.args.lists.now c.columns_weight-weight.result read c.columns_weight-weight.ensures (omega arith)) c.moved.ensures.outcome
 
-pub returns : goal.returns
-returns c =
+pub returns-clause-outcome : goal.returns-clause-outcome
+returns-clause-outcome c =
     let call = c.args.call.now in
     let all = c.in_ok-columns.ensures ∙ ap (λ (os : List Operand). columns_read os c.args.lists.now) c.as_slice.ensures in
     let lent : List (Bor Items) = c.as_slice-columns.result.now in
     let read : map (λ (r : Bor Items). r.now) lent ≡ columns_read call.operands c.args.lists.now = ap (map (λ (r : Bor Items). r.now)) c.as_slice-columns.ensures.value ∙ all in
-    subst (λ (x : Outcome). IfOk c.made.result (λ o. o ≡ x)) (outcome-lent c.args.decls.now call (λ (r : Bor Items). r.now) lent c.args.lists.now c.columns_weight-weight.result read c.columns_weight-weight.ensures (omega arith)) c.made.ensures
+    let group : is_some (entry call.op).group ≡ true = ap is_some (sym c.form.ensures.group ∙ c.in-Some.is) in
+    let same = sym (outcome-computed c.args.decls.now call c.columns_weight-weight.result (map (λ (r : Bor Items). items_of r.now) lent) (computes call.op group).results)
+    ∙ outcome-lent c.args.decls.now call (λ (r : Bor Items). r.now) lent c.args.lists.now c.columns_weight-weight.result read c.columns_weight-weight.ensures (omega arith) in
+    subst (λ (x : Outcome). IfOk c.made.result (λ o. o ≡ x)) same c.made.ensures
+
+pub returns-clause-fits : goal.returns-clause-fits
+returns-clause-fits c =
+    let call = c.args.call.now in
+    let lent : List (Bor Items) = c.as_slice-columns.result.now in
+    let group : is_some (entry call.op).group ≡ true = ap is_some (sym c.form.ensures.group ∙ c.in-Some.is) in
+    let fit = made-fits c.args.decls.now call c.columns_weight-weight.result (map (λ (r : Bor Items). items_of r.now) lent) (computes call.op group).results c.requires.call.results in
+    MatchResult-weaker c.made.result c.made.ensures (λ o e. ap (λ (x : Outcome). output_fits c.args.decls.now call.out x.results) e ∙ fit) (λ m t. t)

@@ -8,7 +8,7 @@ use Rattle.sa_call.specs.Elements.{Setting, cell_item, element_of, elements, gat
 use Rattle.sa_call.specs.Decides.{results_as}
 use Rattle.sa_call.specs.Forms.{entry}
 use Rattle.sa_call.specs.declared.results.ResultList.{ResultList}
-use Rattle.sa_call.specs.Walks.{HaltsResults, joined, no_results}
+use Rattle.sa_call.specs.Walks.{HaltsResults, computed_items, joined, no_results}
 use Rattle.sa_call.proofs.WalkLemmas.{joined-none, light-more, walk-end, walk-more, walk-stops}
 use Rattle.sa_call.proofs.walking.walk.Goals as goal
 
@@ -23,7 +23,7 @@ loop-at-init c =
       light = c.requires.light;
       goes = ap (λ (rs : ResultList). joined rs (gathered set.forbidden c.args.weight 0 (map f (range_with_len 0 (c.args.count - 0))))) (c.new-results.ensures ∙ ap no_results c.form.ensures.results)
           ∙ joined-none (entry set.op).results (gathered set.forbidden c.args.weight 0 (map f (range_with_len 0 (c.args.count - 0))))
-          ∙ ap (λ n. results_as (entry set.op).results (gathered set.forbidden c.args.weight 0 (map f (range_with_len 0 n)))) whole;
+          ∙ ap (λ n. results_as (computed_items (entry set.op).results) (gathered set.forbidden c.args.weight 0 (map f (range_with_len 0 n)))) whole;
     }
 
 pub returns-in-Err : goal.returns-in-Err
@@ -33,7 +33,7 @@ returns-in-Err c =
     let columns : List (List Item) = map (λ b. items_of b.now) c.args.columns.now in
     let f : ℕ → Result Item Refusal = λ k. element_of s set.op (record { columns = columns; at = k; blank = set.blank }) in
     let l = c.loop-at in
-    let all = results_as (entry set.op).results (gathered set.forbidden c.args.weight 0 (elements s set.op columns c.args.count)) in
+    let all = results_as (computed_items (entry set.op).results) (gathered set.forbidden c.args.weight 0 (elements s set.op columns c.args.count)) in
     let below = c.loop-at-test.true in
     let left : c.args.count - l.at ≡ suc (c.args.count - (l.at + 1)) = omega arith in
     subst (λ (h : Halt). HaltsResults h all) (sym c.at.ensures)
@@ -47,7 +47,7 @@ loop-at-preserved c =
     let columns : List (List Item) = map (λ b. items_of b.now) c.args.columns.now in
     let f : ℕ → Result Item Refusal = λ k. element_of s set.op (record { columns = columns; at = k; blank = set.blank }) in
     let l = c.loop-at in
-    let all = results_as (entry set.op).results (gathered set.forbidden c.args.weight 0 (elements s set.op columns c.args.count)) in
+    let all = results_as (computed_items (entry set.op).results) (gathered set.forbidden c.args.weight 0 (elements s set.op columns c.args.count)) in
     let below = c.loop-at-test.true in
     let left : c.args.count - l.at ≡ suc (c.args.count - (l.at + 1)) = omega arith in
     let weighs = c.weight-weight.ensures.weight in
@@ -66,6 +66,6 @@ returns c =
     let columns : List (List Item) = map (λ b. items_of b.now) c.args.columns.now in
     let f : ℕ → Result Item Refusal = λ k. element_of s set.op (record { columns = columns; at = k; blank = set.blank }) in
     let l = c.loop-at in
-    let all = results_as (entry set.op).results (gathered set.forbidden c.args.weight 0 (elements s set.op columns c.args.count)) in
+    let all = results_as (computed_items (entry set.op).results) (gathered set.forbidden c.args.weight 0 (elements s set.op columns c.args.count)) in
     let past = c.loop-at-test.false in
     walk-end set.forbidden l.weight l.at (c.args.count - l.at) f l.results all (omega arith) l.invariant.goes ∙ ap (λ x. Ok x) (sym c.into_items.ensures)

@@ -9,7 +9,6 @@ use Rattle.sa_hall.specs.Passes.{PassValue}
 use Rattle.sa_loop.specs.declared.act.Act.{Act}
 use Rattle.sa_loop.specs.Held.{CanTake, HasShape}
 use Rattle.sa_loop.specs.Locked.{world_held}
-use Rattle.sa_loop.specs.Orders.{world_in}
 use Rattle.sa_loop.specs.Runs.{world_of}
 use Rattle.sa_loop.specs.States.{World}
 use Rattle.sa_loop.specs.Takes.{parts_of}
@@ -23,7 +22,7 @@ take-requires-clause-can g c =
     let h = c.args.held.now in
     let decls = c.args.decls.now in
     let call = c.args.call.now in
-    subst (λ l. CanTake decls (λ d. is_held (held_at l d)) (λ d. (lent_at l d).layout) call) (sym c.lent.ensures)
+    subst (λ l. CanTake decls (λ d. is_held (held_at l d)) (λ d. lent_at l d) call) (sym c.lent.ensures)
     (can-take B.roll B.ties B.shapes decls call h.numbers h.hold.its c.arrays-declared.ensures.declared c.requires.call c.numbers-taken.ensures.taken c.requires.locks (shape-at decls B.shapes c.arrays-declared.ensures.declared c.requires.shapes))
 
 pub plan_work-requires-after_bounds : goal.plan_work-requires-after_bounds
@@ -34,7 +33,7 @@ plan_work-requires-after_bounds g c κs within =
     let call = c.args.call.now in
     let declared = c.arrays-declared.ensures.declared in
     let taken = c.numbers-taken.ensures.taken in
-    can-plan decls call (parts_told decls call c.in_ok-read.read c.in_ok-read.weights) c.in_ok-outcome.outcome h.hold declared c.requires.call (c.in_ok-outcome.ensures c.in_ok-read.weights c.in_ok-read.ensures.taken.are_weights)
+    can-plan decls call (parts_told decls call c.in_ok-read.read c.in_ok-read.weights) c.in_ok-outcome.outcome h.hold declared c.requires.call (c.in_ok-outcome.ensures.decided c.in_ok-read.weights c.in_ok-read.ensures.taken.are_weights) c.in_ok-outcome.ensures.fits
     (named-held B.roll B.ties B.shapes decls call h.numbers h.hold.its declared c.requires.call taken c.requires.locks (shape-at decls B.shapes c.arrays-declared.ensures.declared c.requires.shapes))
     (shape-held B.roll B.ties B.shapes decls call h.numbers h.hold.its declared c.requires.call taken c.requires.locks (shape-at decls B.shapes c.arrays-declared.ensures.declared c.requires.shapes))
 
@@ -52,10 +51,10 @@ commit-requires-clause-fits g c κs within =
     record { decls_is = made.0; task_is = made.1; number_is = made.2; body_is = made.3; outcome_is = made.4; read_is = made.5; weights_is = made.6; locks_is = made.7 } in
     let said = act-says decls c.task-2.result c.args.number call c.in_ok-read.read c.in_ok-read.weights c.in_ok-outcome.outcome c.new-act.result is in
     let shapes = shape-held B.roll B.ties B.shapes decls call h.numbers h.hold.its declared c.requires.call c.numbers-taken.ensures.taken c.requires.locks (shape-at decls B.shapes c.arrays-declared.ensures.declared c.requires.shapes) in
-    let seen : world_of (λ d. (lent_at c.lent.result d).layout) ≡ world_held mid.hold =
-    ap (λ l. world_of (λ d. (lent_at l d).layout)) c.lent.ensures ∙ (lent-world h.hold.its ∙ ap (λ its. world_in (contents_at {D = Act} its)) (sym planned.its)) in
+    let seen : world_of (λ d. lent_at c.lent.result d) ≡ world_held mid.hold =
+    ap (λ l. world_of (λ d. lent_at l d)) c.lent.ensures ∙ (lent-world h.hold.its ∙ ap (λ its. world_of (contents_at {D = Act} its)) (sym planned.its)) in
     fits-said decls call _ c.in_ok-work.work mid declared c.requires.call
-    (λ d named. subst (λ its. HasShape decls d (contents_at {D = Act} its d).layout) (sym planned.its) (shapes d named))
+    (λ d named. subst (λ its. HasShape decls d (contents_at {D = Act} its d)) (sym planned.its) (shapes d named))
     (ap (λ (s : Said). s.locks) said)
     (planned.numbers ∙ c.requires.locks)
     (ap (λ (s : Said). s.parts) said ∙ (c.in_ok-read.ensures.taken.parts ∙ ap (λ (w : World). parts_of decls w call) seen))
@@ -75,13 +74,13 @@ returns-clause-done g c =
     let made = c.new-act.ensures in
     let is : IsActOf decls c.task-2.result c.args.number call c.in_ok-read.read c.in_ok-read.weights c.in_ok-outcome.outcome c.new-act.result =
     record { decls_is = made.0; task_is = made.1; number_is = made.2; body_is = made.3; outcome_is = made.4; read_is = made.5; weights_is = made.6; locks_is = made.7 } in
-    let seen : world_of (λ d. (lent_at c.lent.result d).layout) ≡ world_held h.hold = ap (λ l. world_of (λ d. (lent_at l d).layout)) c.lent.ensures ∙ lent-world h.hold.its in
+    let seen : world_of (λ d. lent_at c.lent.result d) ≡ world_held h.hold = ap (λ l. world_of (λ d. lent_at l d)) c.lent.ensures ∙ lent-world h.hold.its in
     performed decls call c.task-2.result c.args.number c.in_ok-commit.field-0 c.in_ok-read.read c.in_ok-read.weights c.in_ok-outcome.outcome c.in_ok-reply.reply h mid c.commit.new.self c.new-act.result c.requires.call
     (named-held B.roll B.ties B.shapes decls call h.numbers h.hold.its declared c.requires.call taken c.requires.locks (shape-at decls B.shapes c.arrays-declared.ensures.declared c.requires.shapes))
     (shape-held B.roll B.ties B.shapes decls call h.numbers h.hold.its declared c.requires.call taken c.requires.locks (shape-at decls B.shapes c.arrays-declared.ensures.declared c.requires.shapes))
     is
     (c.task-2.ensures ∙ ap (λ (p : PassValue Act). p.it.task) planned.pass)
-    (c.in_ok-outcome.ensures c.in_ok-read.weights c.in_ok-read.ensures.taken.are_weights ∙ ap (decide decls call) (c.in_ok-read.ensures.taken.parts ∙ ap (λ (w : World). parts_of decls w call) seen))
+    (c.in_ok-outcome.ensures.decided c.in_ok-read.weights c.in_ok-read.ensures.taken.are_weights ∙ ap (decide decls call) (c.in_ok-read.ensures.taken.parts ∙ ap (λ (w : World). parts_of decls w call) seen))
     c.in_ok-reply.ensures
     planned.sound
     (record { its = planned.its; numbers = planned.numbers; pass = ap (λ (p : PassValue Act). p.it) planned.pass })

@@ -3,7 +3,7 @@ use Rattle.sa_loop.proofs.ViewLemmas.{ready, fits-some}
 use Rattle.sa_loop.proofs.taking.list_in.Goals as goal
 
 pub places-requires : goal.places-requires
-places-requires c = fits-some c.args.decls.now c.args.store.now.contents.layout c.args.view.now c.requires
+places-requires c = fits-some c.args.decls.now c.args.view.now c.requires.declared c.requires.array c.requires.view
 
 pub values-requires : goal.values-requires
 values-requires c =

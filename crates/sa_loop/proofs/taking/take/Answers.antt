@@ -6,5 +6,5 @@ use Rattle.sa_loop.proofs.taking.take.Goals as goal
 pub returns-in-Some-clause-taken : goal.returns-in-Some-clause-taken
 returns-in-Some-clause-taken g c =
     MatchResult-weaker c.take_whole.result c.take_whole.ensures
-    (λ t whole. taken-whole c.args.decls.now (g.R.Rooms.has c.args.rooms.now) (g.R.Rooms.layouts c.args.rooms.now) c.args.call.now c.in-Some.number c.store.result.now.contents.layout t.0 t.1 c.requires.can (sym c.in-Some.ensures) c.store.ensures whole)
+    (λ t whole. taken-whole c.args.decls.now (g.R.Rooms.has c.args.rooms.now) (g.R.Rooms.holds c.args.rooms.now) c.args.call.now c.in-Some.number c.store.result.now.contents.layout t.0 t.1 c.requires.can (sym c.in-Some.ensures) c.store.ensures whole)
     (λ m t. t)

@@ -6,6 +6,6 @@ use Rattle.sa_loop.proofs.taking.weight_at.Given as goal
 -- the weight so far and that of what is left are all
 abbrev pub invariant-loop-operand : goal.invariant-loop-operand
 invariant-loop-operand g l = record {
-  weight : l.weight + weight_taken l.decls (shown (g.R.Rooms.layouts l.rooms l.number)) l.number (drop l.operand-index l.operands) ≡ weight_taken l.decls (shown (g.R.Rooms.layouts l.rooms l.number)) l.number l.operands;
+  weight : l.weight + weight_taken l.decls (shown (g.R.Rooms.holds l.rooms l.number)) l.number (drop l.operand-index l.operands) ≡ weight_taken l.decls (shown (g.R.Rooms.holds l.rooms l.number)) l.number l.operands;
   most : l.weight ≤ 537001984 * l.operand-index;
 }

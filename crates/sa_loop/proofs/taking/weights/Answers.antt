@@ -14,8 +14,8 @@ use Rattle.sa_loop.proofs.taking.weights.Goals.{then-is_named+in_ok-weight+in_ok
 pub weight_at-requires-clause-held : goal.weight_at-requires-clause-held
 weight_at-requires-clause-held g c =
     let has = g.R.Rooms.has c.args.rooms.now in
-    let layouts = g.R.Rooms.layouts c.args.rooms.now in
-    subst (λ (os : List Operand). AreHeld c.args.decls.now has layouts os) (sym c.as_slice-operands.ensures) (are-held c.args.decls.now has layouts c.args.call.now c.requires.can)
+    let holds = g.R.Rooms.holds c.args.rooms.now in
+    subst (λ (os : List Operand). AreHeld c.args.decls.now has holds os) (sym c.as_slice-operands.ensures) (are-held c.args.decls.now has holds c.args.call.now c.requires.can)
 
 pub weight_at-requires-clause-few : goal.weight_at-requires-clause-few
 weight_at-requires-clause-few g c =
@@ -40,7 +40,7 @@ loop-number-preserved g c =
     let call = c.args.call.now in
     let l = c.loop-number in
     let n = l.number in
-    let s = λ (k : ℕ). shown (g.R.Rooms.layouts c.args.rooms.now k) in
+    let s = λ (k : ℕ). shown (g.R.Rooms.holds c.args.rooms.now k) in
     let weigh = λ (k : ℕ). weight d (s k) call k in
     elim c.if-is_named.branch [
       | then-is_named+in_ok-weight+in_ok-push w ↦

@@ -7,7 +7,7 @@ use Rattle.sa_loop.proofs.taking.weights.Given as goal
 
 abbrev pub invariant-loop-number : goal.invariant-loop-number
 invariant-loop-number g l = record {
-  weights : l.weights ≡ map (λ d. weight l.decls (shown (g.R.Rooms.layouts l.rooms d)) l.call d) (filter (is_named l.decls l.call) (range_with_len 0 l.number));
+  weights : l.weights ≡ map (λ d. weight l.decls (shown (g.R.Rooms.holds l.rooms d)) l.call d) (filter (is_named l.decls l.call) (range_with_len 0 l.number));
   together : l.together ≡ sum l.weights;
   most : l.together ≤ 4296015872 * l.number;
 }

@@ -18,7 +18,7 @@ use Rattle.sa_loop.specs.States.{lengths_of}
 use Rattle.sa_loop.proofs.HistoryLemmas.{one-history}
 use Rattle.sa_loop.proofs.OpenLemmas.{many-shapes}
 use Rattle.sa_work.specs.Crews.{AreDone}
-use Rattle.sa_work.specs.Threads.{flags_of, layouts_of}
+use Rattle.sa_work.specs.Threads.{flags_of, holds_of}
 use Rattle.sa_work.proofs.ThreadLemmas.{listed, one-run, passes-of, quiet-of}
 use Rattle.sa_work.proofs.gather.gather.Goals as goal
 
@@ -57,11 +57,11 @@ invariant_of-result g c =
     let n = length decls.descrs in
     record {
       there = λ d. quiet.there d ∙ ap (nat_lt d) (many ∙ ap (λ (x : Declared). length x.descrs) (sym c.decls.ensures));
-      shaped = subst (λ (x : Declared). map (λ d. (layouts_of its d).lengths) (range_with_len 0 (length x.descrs)) ≡ map (lengths_of x) (range_with_len 0 (length x.descrs))) (sym c.decls.ensures)
-          (listed (λ d. (layouts_of its d).lengths) (lengths_of decls) n (λ d below. ap (λ (s : Shape). s.strings) (are.shapes d below)));
+      shaped = subst (λ (x : Declared). map (λ d. (holds_of its d).layout.lengths) (range_with_len 0 (length x.descrs)) ≡ map (lengths_of x) (range_with_len 0 (length x.descrs))) (sym c.decls.ensures)
+          (listed (λ d. (holds_of its d).layout.lengths) (lengths_of decls) n (λ d below. ap (λ (s : Shape). s.strings) (are.shapes d below)));
       replied = subst (λ (x : Declared). map line_reply e2.lines ≡ play_replies x (map line_call e2.lines)) (sym c.decls.ensures) h.played.answers;
-      left = subst (λ (x : Declared). map (λ d. shown (layouts_of its d)) (range_with_len 0 (length x.descrs)) ≡ map (play_world x (map line_call e2.lines)) (range_with_len 0 (length x.descrs))) (sym c.decls.ensures)
-          (listed (λ d. shown (layouts_of its d)) (play_world decls (map line_call e2.lines)) n h.played.states);
+      left = subst (λ (x : Declared). map (λ d. shown (holds_of its d)) (range_with_len 0 (length x.descrs)) ≡ map (play_world x (map line_call e2.lines)) (range_with_len 0 (length x.descrs))) (sym c.decls.ensures)
+          (listed (λ d. shown (holds_of its d)) (play_world decls (map line_call e2.lines)) n h.played.states);
     }
 
 pub returns-clause-history : goal.returns-clause-history

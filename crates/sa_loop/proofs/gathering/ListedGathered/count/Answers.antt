@@ -8,5 +8,5 @@ returns-clause-played c =
     let l = c.args.self.now in
     record {
       answers = l.replied;
-      states = λ d below. left-at l.decls.now l.stores.items (map (λ (a : Act). a.body.now) l.acts.items) (length l.decls.now.descrs) d l.left below;
+      states = λ d below. left-at l.decls.now l.rooms.items (map (λ (a : Act). a.body.now) l.acts.items) (length l.decls.now.descrs) d l.left below;
     }

@@ -6,7 +6,7 @@ use Rattle.sa_hall.specs.Domains.{Kept}
 use Rattle.sa_hall.specs.Holds.{contents_in, held_at}
 use Rattle.sa_loop.specs.declared.act.Act.{Act}
 use Rattle.sa_loop.specs.States.{lengths_of}
-use Rattle.sa_work.specs.Threads.{layouts_of}
+use Rattle.sa_work.specs.Threads.{holds_of}
 use Rattle.sa_work.proofs.ThreadLemmas.{listed-at, store-below, store-none, store-some}
 use Rattle.sa_work.proofs.threaded.ThreadedGathered.store.Goals as goal
 
@@ -28,4 +28,4 @@ returns-clause-shape c =
     let at : held_at t.quiet c.args.number ≡ Some it = sym c.in_ok-domain.ensures in
     let below = store-below t.quiet (length decls.descrs) c.args.number it t.there at in
     ap (λ (l : Layout). l.lengths) (c.store.ensures.layout ∙ ap (λ (o : Option (Kept Act)). (contents_in o).layout) (sym at))
-    ∙ listed-at (λ d. (layouts_of t.quiet d).lengths) (lengths_of decls) (length decls.descrs) c.args.number t.shaped below
+    ∙ listed-at (λ d. (holds_of t.quiet d).layout.lengths) (lengths_of decls) (length decls.descrs) c.args.number t.shaped below

@@ -1,7 +1,0 @@
-use Rattle.std.proofs.Common.{sym, ◌∙◌}
-use Rattle.sa_script.proofs.KindLemmas.{kinds_skip}
-use Rattle.sa_script.proofs.kinds.kinds_read.Goals as goal
-
-pub sorts-preserved-then-not-is_operand : goal.sorts-preserved-then-not-is_operand
-sorts-preserved-then-not-is_operand c =
-    kinds_skip c.args.sorts.now c.sorts.sort-index _ c.sorts.rest.now c.sorts-test.true (sym c.is_operand.ensures ∙ c.if-not-is_operand.true) ∙ c.sorts.invariant

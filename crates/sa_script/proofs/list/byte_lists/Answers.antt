@@ -1,0 +1,6 @@
+use Rattle.std.proofs.Common.{Some, sym, ap, ◌∙◌}
+use Rattle.sa_script.proofs.RunLemmas.{bytes_narrow}
+use Rattle.sa_script.proofs.list.byte_lists.Goals as goal
+
+pub rows_of-requires : goal.rows_of-requires
+rows_of-requires c = bytes_narrow c.args.token.now c.in-Some-Some.texts (sym c.in_ok-list_as.ensures ∙ c.in-Some-Some.is ∙ ap Some c.in-Some-Some.field-0-is)
