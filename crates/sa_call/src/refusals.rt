@@ -1,8 +1,11 @@
-ghost use Rattle.std.specs.Prelude.{◌≡◌, ◌≤◌, ◌<◌, slice_index_or, true};
+ghost use Rattle.std.specs.Prelude.{◌≡◌, ◌≤◌, ◌<◌, slice_index_or, not, true, false};
 ghost use Rattle.sa_base.specs.Items.{MissingItem};
 ghost use Rattle.sa_plain.specs.Items.{count_of, items_of};
 ghost use Rattle.sa_plain.specs.Widths.{most_width};
+ghost use Rattle.std.specs.List.{list_all, list_any};
+ghost use Rattle.sa_text.specs.Values.{is_missing};
 ghost use Rattle.sa_call.specs.Decides.{forbids};
+ghost use Rattle.sa_call.specs.Elements.{is_missing_item};
 ghost use Rattle.sa_call.specs.Kinds.{output_width};
 ghost use Rattle.sa_call.specs.Limits.{most_weight};
 ghost use Rattle.sa_call.specs.Refusals.{refused, refusal_of};
@@ -14,6 +17,7 @@ use crate::row::is_missing_at;
 use crate::rules::kind_of;
 use sa_descr::rule_of;
 use sa_plain::{Items, PlainKind};
+use sa_text::Value;
 use sa_view::View;
 
 /// The most that one call weighs.
@@ -50,16 +54,43 @@ pub(crate) fn output_width(decls: &Decls, out: &Option<View>) -> u16
 }
 
 /// Why results are refused that follow this weight: the first that is missing where that is forbidden, or
-/// with which the weight passes its limit. Where neither can be, no item is looked at.
+/// with which the weight passes its limit. Where the weight is within its limit, one value that stands for
+/// many is looked at once.
 pub fn results_refusal(forbidden: bool, weight: u64, results: &Items) -> Option<(Refusal, u32)>
     requires light { weight ≤ most_weight }
     requires few { count_of results.now ≤ 8192 }
     ensures { result ≡ refused forbidden weight 0 (items_of results.now) }
 {
-    if !forbidden && weight + results.weight() <= MOST_WEIGHT {
+    if weight + results.weight() > MOST_WEIGHT {
+        return first_refusal(forbidden, weight, results);
+    }
+    if !forbidden {
+        return None;
+    }
+    if is_without_missing(results) {
         return None;
     }
     first_refusal(forbidden, weight, results)
+}
+
+/// Whether surely no result is missing. One value that stands for many is looked at once.
+fn is_without_missing(results: &Items) -> bool
+    ensures { result ≡ true → list_any is_missing_item (items_of results.now) ≡ false }
+{
+    match results {
+        Items::Values(values) => are_present(values.as_slice()),
+        Items::Ints(_numbers) => true,
+        Items::Flags(_flags) => true,
+        Items::Bytes(_rows) => true,
+        Items::Units(_rows) => true,
+    }
+}
+
+/// Whether none of these values is missing.
+fn are_present(values: &[Value]) -> bool
+    ensures { result ≡ list_all (λ v. not (is_missing v)) values.now }
+{
+    values.iter().all(|value| !value.is_missing())
 }
 
 /// The first refusal among results: a missing one that is forbidden, or one with which the weight passes its
