@@ -2,3 +2,4 @@ pub use Rattle.sa_loop.specs.Histories
 pub mod Naming
 pub mod Plays
 pub mod Reports
+pub mod Summaries

@@ -9,11 +9,13 @@ mod contents;
 mod law;
 mod making;
 mod picture;
+mod summing;
 mod tasks;
 mod writing;
 
 pub use law::names_its_history;
 pub use making::{fault_line, report};
+pub use summing::summary;
 
 #[cfg(test)]
 mod tests;

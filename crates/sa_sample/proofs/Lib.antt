@@ -1,1 +1,13 @@
+pub mod CallLemmas
+pub mod CombineLemmas
+pub mod CutLemmas
+pub mod DeclarationLemmas
+pub mod DrawnLemmas
+pub mod FaultLemmas
 pub mod LineLemmas
+pub mod MeantLemmas
+pub mod RunLemmas
+pub mod ScriptLemmas
+pub mod TokenLemmas
+pub mod ViewLemmas
+pub mod WordLemmas

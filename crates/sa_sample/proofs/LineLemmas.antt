@@ -1,5 +1,5 @@
 -- The lines of a sample, one after another, and what has been written of them.
-use Rattle.std.proofs.Common.{◌≡◌, ℕ, zero, suc, ◌+◌, ◌-◌, ◌<◌, List, [], ◌∷◌, ◌++◌, refl, sym, ap, ◌∙◌, arith, codes, append_assoc}
+use Rattle.std.proofs.Common.{◌≡◌, ℕ, suc, ◌+◌, ◌-◌, ◌<◌, List, [], ◌∷◌, ◌++◌, refl, sym, ap, ◌∙◌, arith, codes, append_assoc}
 use Rattle.std.specs.List.{flat_map}
 use Rattle.std.proofs.lemmas.Grind.{flat_map-append}
 use Rattle.sa_lines.specs.Lines.{line}
@@ -19,7 +19,7 @@ three-parts o a b d p q t i w e1 e2 e3 = rw (e3, e2, e1) (simp append_assoc)
 less-one : (n k : ℕ) → k < n → n - k ≡ suc (n - (k + 1))
 less-one n k below = omega arith
 
-call_lines-suc : (n x : ℕ) → call_lines (suc n) x ≡ joined (call_tokens (drawn_call x)) ∷ call_lines n (after_call x)
+pub call_lines-suc : (n x : ℕ) → call_lines (suc n) x ≡ joined (call_tokens (drawn_call x)) ∷ call_lines n (after_call x)
 unfolding call_lines
 call_lines-suc n x = refl
 
@@ -27,7 +27,7 @@ after_calls-suc : (n x : ℕ) → after_calls (suc n) x ≡ after_calls n (after
 unfolding after_calls
 after_calls-suc n x = refl
 
-task_lines-suc : (n x : ℕ) → task_lines (suc n) x ≡ codes "task" ∷ (call_lines 64 x ++ task_lines n (after_calls 64 x))
+pub task_lines-suc : (n x : ℕ) → task_lines (suc n) x ≡ codes "task" ∷ (call_lines 64 x ++ task_lines n (after_calls 64 x))
 unfolding task_lines
 task_lines-suc n x = refl
 
@@ -50,8 +50,8 @@ call-written n k x o a b below first last =
     let left : o ++ flat_map line (call_lines (n - k) x) ≡ o ++ ((call ++ 10 ∷ []) ++ rest) = ap (λ ls. o ++ flat_map line ls) (first-call n k x below) in
     ap (λ bs. bs ++ rest) (last ∙ ap (λ bs. bs ++ 10 ∷ []) first) ∙ (rest-behind o call (10 ∷ []) rest ∙ sym left)
   where
-  rest-behind : (o a b r : List ℕ) → ((o ++ a) ++ b) ++ r ≡ o ++ ((a ++ b) ++ r)
-  rest-behind o a b r = simp append_assoc
+    rest-behind : (o a b r : List ℕ) → ((o ++ a) ++ b) ++ r ≡ o ++ ((a ++ b) ++ r)
+    rest-behind o a b r = simp append_assoc
 
 -- what is written, and what is left to write, after one more task
 pub task-written : (n k x y : ℕ) (o a b : List ℕ) → k < n → a ≡ o ++ codes "task\n" → b ≡ a ++ flat_map line (call_lines 64 x) → y ≡ after_calls 64 x
@@ -64,27 +64,27 @@ task-written n k x y o a b below first last drawn =
     ap (λ bs. bs ++ flat_map line (rest ++ end)) (last ∙ ap (λ bs. bs ++ flat_map line calls) first)
     ∙ (task-behind o calls rest end ∙ sym (ap (λ ls. o ++ flat_map line (ls ++ end)) tasks))
   where
-  task-behind : (o : List ℕ) (cs rs es : List (List ℕ)) → ((o ++ codes "task\n") ++ flat_map line cs) ++ flat_map line (rs ++ es) ≡ o ++ flat_map line (codes "task" ∷ (cs ++ rs) ++ es)
-  task-behind o cs rs es = simp (append_assoc, flat_map-append)
+    task-behind : (o : List ℕ) (cs rs es : List (List ℕ)) → ((o ++ codes "task\n") ++ flat_map line cs) ++ flat_map line (rs ++ es) ≡ o ++ flat_map line (codes "task" ∷ (cs ++ rs) ++ es)
+    task-behind o cs rs es = simp (append_assoc, flat_map-append)
 
 -- nothing is left at the end
 pub no-call : (n k x : ℕ) → n ≡ k → call_lines (n - k) x ≡ []
 unfolding call_lines
 no-call n k x same = ap (λ m. call_lines m x) (none-left n k same)
   where
-  none-left : (n k : ℕ) → n ≡ k → n - k ≡ 0
-  none-left n k same = omega arith
+    none-left : (n k : ℕ) → n ≡ k → n - k ≡ 0
+    none-left n k same = omega arith
 
 pub after-none : (n k x : ℕ) → n ≡ k → after_calls (n - k) x ≡ x
 unfolding after_calls
 after-none n k x same = ap (λ m. after_calls m x) (none-left n k same)
   where
-  none-left : (n k : ℕ) → n ≡ k → n - k ≡ 0
-  none-left n k same = omega arith
+    none-left : (n k : ℕ) → n ≡ k → n - k ≡ 0
+    none-left n k same = omega arith
 
 pub no-task : (n k x : ℕ) → n ≡ k → task_lines (n - k) x ≡ []
 unfolding task_lines
 no-task n k x same = ap (λ m. task_lines m x) (none-left n k same)
   where
-  none-left : (n k : ℕ) → n ≡ k → n - k ≡ 0
-  none-left n k same = omega arith
+    none-left : (n k : ℕ) → n ≡ k → n - k ≡ 0
+    none-left n k same = omega arith

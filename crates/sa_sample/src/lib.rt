@@ -6,8 +6,10 @@
 #![tactic(auto)]
 
 mod drawing;
+mod law;
 mod making;
 
+pub use law::samples_are_scripts;
 pub use making::sample;
 
 #[cfg(test)]

@@ -1,3 +1,4 @@
 pub mod EndingLemmas
 pub mod NamedLemmas
+pub mod SampleLemmas
 pub mod StreamLemmas

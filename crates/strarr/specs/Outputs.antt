@@ -1,5 +1,5 @@
 -- The output of the program: a status and bytes, for the words of the command line and the bytes of the input.
-use Rattle.std.specs.Prelude.{◌≡◌, ◌⊎◌, ◌<◌, ◌≤◌, ℕ, nat_le, nat_lt, ◌&&◌, Bool, List, [], ◌∷◌, length, map, true, false, Option, Some, None, Ok, Err, if◌then◌else◌, codes}
+use Rattle.std.specs.Prelude.{◌≡◌, ◌⊎◌, ◌<◌, ◌≤◌, ℕ, nat_le, nat_lt, ◌&&◌, Bool, List, [], ◌∷◌, length, map, true, false, Option, Some, None, option_map, Ok, Err, if◌then◌else◌, codes}
 use Rattle.sa_lines.specs.Numbers.{digits_of}
 use Rattle.sa_lines.specs.Options.{◌>>=◌}
 use Rattle.sa_lines.specs.Tokens.{is_word}
@@ -10,20 +10,28 @@ use Rattle.sa_report.specs.Reports.{fault_line, marks_in}
 use Rattle.sa_report.specs.Naming.{history_named, marks_named}
 use Rattle.sa_loop.specs.Histories.{IsHistory, serial}
 use Rattle.sa_report.specs.Plays.{report_of_play}
+use Rattle.sa_report.specs.Summaries.{summary_of_play}
+use Rattle.sa_sample.specs.Samples.{sample_of}
 use Rattle.strarr.specs.declared.words.Command.{Command}
 use Rattle.strarr.specs.declared.words.Command.TheVariants as command
 use Rattle.strarr.specs.declared.status.Status.{Status}
 use Rattle.strarr.specs.declared.status.Status.TheVariants as status
 
--- the number of workers that a word spells, from 1 to 16: one to five digits, where leading zeros are allowed
-abbrev pub workers_of : List ℕ → Option ℕ
-workers_of w = if nat_le (length w) 5 then (digits_of w >>= λ n. if nat_le 1 n && nat_le n 16 then Some n else None) else None
+-- a number between two bounds that a word spells: one to five digits, where leading zeros are allowed
+abbrev pub number_within : ℕ → ℕ → List ℕ → Option ℕ
+number_within least most w = if nat_le (length w) 5 then (digits_of w >>= λ n. if nat_le least n && nat_le n most then Some n else None) else None
+
+-- a command of two words: how many workers there are, or the number of a sample
+abbrev pub command_with : List ℕ → List ℕ → Option Command
+command_with w v =
+    if is_word (codes "run") w then option_map command.Run (number_within 1 16 v)
+    else (if is_word (codes "sample") w then option_map command.Sample (number_within 0 65535 v) else None)
 
 -- the command that the words are
 abbrev pub command_of : List (List ℕ) → Option Command
 command_of [] = None
 command_of (w ∷ []) = if is_word (codes "serial") w then Some command.Serial else None
-command_of (w ∷ v ∷ []) = if is_word (codes "run") w then (workers_of v >>= λ n. Some (command.Run n)) else None
+command_of (w ∷ v ∷ []) = command_with w v
 command_of (w ∷ v ∷ u ∷ ws) = None
 
 -- whether a command performs a script on the one thread that called
@@ -31,6 +39,21 @@ abbrev pub is_still : Option Command → Bool
 is_still None = false
 is_still (Some command.Serial) = true
 is_still (Some (command.Run n)) = false
+is_still (Some (command.Sample n)) = true
+
+-- how many workers a command asks for
+abbrev pub workers_in : Option Command → Option ℕ
+workers_in None = None
+workers_in (Some command.Serial) = None
+workers_in (Some (command.Run n)) = Some n
+workers_in (Some (command.Sample n)) = None
+
+-- whether it reads a script
+abbrev pub reads_script : Option Command → Bool
+reads_script None = true
+reads_script (Some command.Serial) = true
+reads_script (Some (command.Run n)) = true
+reads_script (Some (command.Sample n)) = false
 
 -- the most bytes that a script has: a limit of this project
 abbrev pub most_script_bytes : ℕ
@@ -40,11 +63,17 @@ most_script_bytes = 4194304
 abbrev pub answer_of : List ℕ → Status × List ℕ
 answer_of input = either (meaning input) (λ script. (status.Done, report_of_play script (serial script.tasks) (λ task call. false))) (λ fault. (status.Script, fault_line fault.0 fault.1))
 
+-- the summary of the serial history of a number's sample, which is a script: that is the law `samples_are_scripts`
+abbrev pub summary_for : ℕ → List ℕ
+summary_for number =
+    either (meaning (sample_of number)) (λ script. summary_of_play number (length (sample_of number)) script (serial script.tasks) (λ task call. false)) (λ fault. [])
+
 -- the output of the call that waits for nobody
 abbrev pub output_for : Option Command → List ℕ → Status × List ℕ
 output_for None input = (status.Words, [])
 output_for (Some command.Serial) input = if nat_lt most_script_bytes (length input) then (status.LongScript, []) else answer_of input
 output_for (Some (command.Run n)) input = (status.Words, [])
+output_for (Some (command.Sample n)) input = (status.Done, summary_for n)
 
 abbrev pub output_of : List (List ℕ) → List ℕ → Status × List ℕ
 output_of words input = output_for (command_of words) input
@@ -87,6 +116,7 @@ pub record IsTooLong (input : List ℕ) (stat : Status) (bytes : List ℕ) : Typ
 abbrev pub MayGive : Option Command → List ℕ → Status → List ℕ → Type 0
 MayGive None input stat bytes = GivenBy (output_for None) input stat bytes
 MayGive (Some command.Serial) input stat bytes = GivenBy (output_for (Some command.Serial)) input stat bytes
+MayGive (Some (command.Sample n)) input stat bytes = GivenBy (output_for (Some (command.Sample n))) input stat bytes
 MayGive (Some (command.Run n)) input stat bytes = IsTooLong input stat bytes ⊎ ((length input ≤ most_script_bytes) × MayAnswer input stat bytes)
 
 -- the number that the program exits with: this project's own

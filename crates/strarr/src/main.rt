@@ -1,5 +1,6 @@
 //! The program: `strarr serial` reads a script from standard input, performs it on one thread and
-//! writes its report to standard output; `strarr run N` performs its tasks on N workers.
+//! writes its report to standard output; `strarr run N` performs its tasks on N workers. `strarr sample N`
+//! makes a script from a number, performs it on one thread and writes a summary.
 #![tactic(auto)]
 
 mod status;

@@ -132,7 +132,7 @@ fn what_is_no_script_has_its_fault(rt: HostRuntime) -> Result<(), Memory> {
 
 #[test]
 fn other_words_are_no_command(rt: HostRuntime) -> Result<(), Fail> {
-    let cases: [&[&str]; 14] = [
+    let cases: [&[&str]; 18] = [
         &[],
         &["run"],
         &["run", "0"],
@@ -142,7 +142,11 @@ fn other_words_are_no_command(rt: HostRuntime) -> Result<(), Fail> {
         &["steps", "7"],
         &["steps", "65536"],
         &["check"],
-        &["sample", "0"],
+        &["sample"],
+        &["sample", "65536"],
+        &["sample", "000000"],
+        &["sample", "-0"],
+        &["sample", "0", "0"],
         &["audit"],
         &["serial", "x"],
         &["Serial"],
@@ -153,6 +157,37 @@ fn other_words_are_no_command(rt: HostRuntime) -> Result<(), Fail> {
         assert_eq!(rt; status, Status::Words, "at {words:?}");
         assert_eq!(rt; written.len(), 0, "at {words:?}");
     }
+    Ok(())
+}
+
+/// The summary of a sample, as a plain program of the same behaviour gives it.
+static SUMMARY: &str = "sample 0
+script 18045
+done 431 refused 81
+report 11983
+stats d0 cursor 0 live 0 dead 0 outside 18
+stats d1 cursor 0 live 0 dead 0 outside 32
+stats d2 cursor 0 live 0 dead 0 outside 31
+stats d3 cursor 0 live 0 dead 0 outside 7
+";
+
+#[test]
+fn a_sample_has_its_summary(rt: HostRuntime) -> Result<(), Fail> {
+    for number in ["0", "00000"] {
+        let words = ["sample", number];
+        let (status, written) = outcome(rt.alloc(), &words, b"end\n", 64, &[0], 4096, &[])?;
+        assert_eq!(rt; status, Status::Done);
+        assert_eq!(rt; written.as_slice(), SUMMARY.as_bytes());
+    }
+    Ok(())
+}
+
+#[test]
+fn a_failed_write_ends_a_sample(rt: HostRuntime) -> Result<(), Fail> {
+    let words = ["sample", "65535"];
+    let (status, written) = outcome(rt.alloc(), &words, b"", 8, &[], 4096, &[2])?;
+    assert_eq!(rt; status, Status::WriteFault);
+    assert_eq!(rt; written.as_slice(), b"sample 65535\nscr".as_slice());
     Ok(())
 }
 

@@ -1,14 +1,16 @@
 //! The top calls.
-ghost use Rattle.std.specs.Prelude.{◌≡◌, ◌≢◌, ◌↔◌, ◌≤◌, false, IfOk, MatchResult, None, map, string_bytes};
-ghost use Rattle.strarr.specs.Outputs.{AnswersFault, GivenBy, IsReport, MayAnswer, MayGive, answer_of, command_of, is_still, output_of};
+ghost use Rattle.std.specs.Prelude.{◌≡◌, ◌≢◌, ◌↔◌, ◌≤◌, false, IfOk, MatchResult, None, true, map, string_bytes};
+ghost use Rattle.strarr.specs.Outputs.{AnswersFault, GivenBy, IsReport, MayAnswer, MayGive, answer_of, command_of, is_still, output_of, reads_script, summary_for};
+ghost use Rattle.sa_base.specs.Streams.{Stream};
 ghost use Rattle.strarr.specs.Endings.{Ends, Completes, Responds};
 ghost use Rattle.strarr.specs.declared.status.Status.TheVariants as status;
 
 use crate::status::Status;
 use crate::streams::{read_all, write_all};
-use crate::words::{Command, read_words};
+use crate::words::{Command, read_words, workers_in};
 use sa_base::{Gate, Memory, Sink, Source};
-use sa_report::{fault_line, report};
+use sa_report::{fault_line, report, summary};
+use sa_sample::{sample, samples_are_scripts};
 use sa_script::{Script, ScriptFault, parse};
 use sa_work::{run_serial, run_tasks};
 use std::alloc::Global;
@@ -31,11 +33,11 @@ pub fn run<R: Threads + Wait + Sync, S: Source, K: Sink, G: Gate + Sync>(
     gate: &G,
 ) -> Status
     // What was read and written, by the status.
-    ensures ends { Ends (MayGive (command_of (map string_bytes words.now)))
+    ensures ends { Ends (reads_script (command_of (map string_bytes words.now))) (MayGive (command_of (map string_bytes words.now)))
         (S.stream source.old) (S.stream source.new)
         (K.stream sink.old) (K.stream sink.new) result }
     // Without a fault the status is one that the definition allows, or there was no memory.
-    ensures complete { Completes (MayGive (command_of (map string_bytes words.now)))
+    ensures complete { Completes (reads_script (command_of (map string_bytes words.now))) (MayGive (command_of (map string_bytes words.now)))
         (S.stream source.old) (S.stream source.new)
         (K.stream sink.old) (K.stream sink.new) result }
     // With every status but that of a failed read none has failed, and so for writes.
@@ -45,7 +47,7 @@ pub fn run<R: Threads + Wait + Sync, S: Source, K: Sink, G: Gate + Sync>(
     ensures words { (result ≡ status.Words) ↔ (command_of (map string_bytes words.now) ≡ None) }
     ensures untouched { result ≡ status.Words → (source.new ≡ source.old) × (sink.new ≡ sink.old) }
 {
-    let Some(Command::Run(workers)) = read_words(words) else {
+    let Some(workers) = workers_in(words) else {
         return run_still(alloc, words, source, sink);
     };
     match perform_in_threads(rt, alloc, workers, source, sink, gate) {
@@ -54,7 +56,7 @@ pub fn run<R: Threads + Wait + Sync, S: Source, K: Sink, G: Gate + Sync>(
 }
 
 /// Runs the program as `run` does, on one thread: it waits for nobody and always returns. The words `run N`
-/// are no command of it.
+/// are no command of it. With `sample N` nothing is read.
 ///
 /// With `Done` and `Script` the whole input was read and the definition's bytes were written; with
 /// `WriteFault` a front of them was; with every other status nothing was. Reading ends at the first
@@ -66,11 +68,11 @@ pub fn run_still<S: Source, K: Sink>(
     sink: &mut K,
 ) -> Status
     // What was read and written, by the status.
-    ensures ends { Ends (GivenBy (output_of (map string_bytes words.now)))
+    ensures ends { Ends (reads_script (command_of (map string_bytes words.now))) (GivenBy (output_of (map string_bytes words.now)))
         (S.stream source.old) (S.stream source.new)
         (K.stream sink.old) (K.stream sink.new) result }
     // Without a fault the status is the definition's, or there was no memory.
-    ensures complete { Completes (GivenBy (output_of (map string_bytes words.now)))
+    ensures complete { Completes (reads_script (command_of (map string_bytes words.now))) (GivenBy (output_of (map string_bytes words.now)))
         (S.stream source.old) (S.stream source.new)
         (K.stream sink.old) (K.stream sink.new) result }
     // With every status but that of a failed read none has failed, and so for writes.
@@ -80,11 +82,14 @@ pub fn run_still<S: Source, K: Sink>(
     ensures words { (result ≡ status.Words) ↔ (is_still (command_of (map string_bytes words.now)) ≡ false) }
     ensures untouched { result ≡ status.Words → (source.new ≡ source.old) × (sink.new ≡ sink.old) }
 {
-    let Some(Command::Serial) = read_words(words) else {
-        return Status::Words;
-    };
-    match perform(alloc, source, sink) {
-        Ok(status) | Err(status) => status,
+    match read_words(words) {
+        Some(Command::Serial) => match perform(alloc, source, sink) {
+            Ok(status) | Err(status) => status,
+        },
+        Some(Command::Sample(number)) => match perform_sample(alloc, number, sink) {
+            Ok(status) | Err(status) => status,
+        },
+        _ => Status::Words,
     }
 }
 
@@ -96,13 +101,25 @@ fn perform<S: Source, K: Sink>(
     sink: &mut K,
 ) -> Result<Status, Status>
     ensures ends { MatchResult result
-        (Ends (GivenBy answer_of) (S.stream source.old) (S.stream source.new) (K.stream sink.old) (K.stream sink.new))
-        (Ends (GivenBy answer_of) (S.stream source.old) (S.stream source.new) (K.stream sink.old) (K.stream sink.new)) }
+        (Ends true (GivenBy answer_of) (S.stream source.old) (S.stream source.new) (K.stream sink.old) (K.stream sink.new))
+        (Ends true (GivenBy answer_of) (S.stream source.old) (S.stream source.new) (K.stream sink.old) (K.stream sink.new)) }
     ensures command { MatchResult result (λ stat. stat ≢ status.Words) (λ stat. stat ≢ status.Words) }
 {
     let text = read_all(alloc, source)?;
     let (status, bytes) = answer(alloc, text.as_slice())?;
     respond(sink, status, bytes.as_slice())
+}
+
+/// Performs the sample of a number on one thread, and writes its summary. The error is the status of what
+/// ended it before.
+fn perform_sample<K: Sink>(alloc: Global, number: u32, sink: &mut K) -> Result<Status, Status>
+    ensures ends { (source : Stream) → MatchResult result
+        (Ends false (GivenBy (λ input. (status.Done, summary_for number))) source source (K.stream sink.old) (K.stream sink.new))
+        (Ends false (GivenBy (λ input. (status.Done, summary_for number))) source source (K.stream sink.old) (K.stream sink.new)) }
+    ensures command { MatchResult result (λ stat. stat ≢ status.Words) (λ stat. stat ≢ status.Words) }
+{
+    let bytes = summary_of_sample(alloc, number)?;
+    respond(sink, Status::Done, bytes.as_slice())
 }
 
 /// Reads the whole input, performs it in threads, and writes its answer. The error is the status of what
@@ -117,8 +134,8 @@ fn perform_in_threads<R: Threads + Wait + Sync, S: Source, K: Sink, G: Gate + Sy
 ) -> Result<Status, Status>
     requires { 1 ≤ workers }
     ensures ends { MatchResult result
-        (Ends MayAnswer (S.stream source.old) (S.stream source.new) (K.stream sink.old) (K.stream sink.new))
-        (Ends MayAnswer (S.stream source.old) (S.stream source.new) (K.stream sink.old) (K.stream sink.new)) }
+        (Ends true MayAnswer (S.stream source.old) (S.stream source.new) (K.stream sink.old) (K.stream sink.new))
+        (Ends true MayAnswer (S.stream source.old) (S.stream source.new) (K.stream sink.old) (K.stream sink.new)) }
     ensures command { MatchResult result (λ stat. stat ≢ status.Words) (λ stat. stat ≢ status.Words) }
 {
     let input = read_all(alloc, source)?;
@@ -145,6 +162,21 @@ fn answer(alloc: Global, text: &[u8]) -> Result<(Status, Vec<u8>), Memory>
         }
         Err(fault) => answer_to_fault(alloc, fault),
     }
+}
+
+/// The summary of the sample of a number.
+fn summary_of_sample(alloc: Global, number: u32) -> Result<Vec<u8>, Memory>
+    ensures { IfOk result (λ bytes. bytes.items ≡ summary_for number) }
+{
+    let text = sample(alloc, number)?;
+    samples_are_scripts();
+    let script = match parse(alloc, text.as_slice()) {
+        Ok(script) => script,
+        Err(ScriptFault::Memory) => return Err(Memory),
+        Err(ScriptFault::Fault { .. }) => unreachable!(),
+    };
+    let run = run_serial(alloc, &script)?;
+    summary(alloc, number, text.len() as u64, &script, &run)
 }
 
 /// The status and the bytes that answer an input in threads.

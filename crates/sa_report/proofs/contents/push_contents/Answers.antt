@@ -1,13 +1,11 @@
 -- The contents of a strings array are those of its home's store, those of a plain array its items.
-use Rattle.std.proofs.Common.{◌≡◌, ◌++◌, ◌<◌, [], ℕ, true, false, Bool, cond, List, Some, None, length, sym, ap, ap₂, ◌∙◌, subst, arith}
+use Rattle.std.proofs.Common.{◌≡◌, ◌++◌, [], ℕ, false, Bool, cond, List, Some, None, length, sym, ap, ap₂, ◌∙◌, subst, arith}
 use Rattle.std.specs.Result.{OnOk}
-use Rattle.sa_plain.specs.Plains.{PlainValue}
 use Rattle.sa_plain.specs.Written.{list_bytes}
 use Rattle.sa_plain.specs.declared.items.Items.{Items}
 use Rattle.sa_plain.specs.declared.items.Items.TheVariants.{Values, Ints}
 use Rattle.sa_call.specs.Decls.{Declared, home_of, is_strings_array}
 use Rattle.sa_call.specs.Told.{index_at_home}
-use Rattle.sa_hall.specs.Contents.{plain_at}
 use Rattle.sa_loop.specs.Gathers.{plain_in}
 use Rattle.sa_loop.specs.Runs.{world_of}
 use Rattle.sa_loop.specs.States.{World, lengths_of, plain_of, values_at}

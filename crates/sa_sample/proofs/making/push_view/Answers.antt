@@ -13,5 +13,5 @@ returns c =
     c.in_ok-push_text-3.ensures (wider c.push_text-3.new.out.items c.from-3.ensures c.in_ok-push_decimal-3.ensures.written) last)
     c.push_text-4.ensures
   where
-  wider : {m n : ℕ} {out : List ℕ} (before : List ℕ) → m ≡ n → out ≡ before ++ decimal m → out ≡ before ++ decimal n
-  wider before same written = written ∙ ap (λ k. before ++ decimal k) same
+    wider : {m n : ℕ} {out : List ℕ} (before : List ℕ) → m ≡ n → out ≡ before ++ decimal m → out ≡ before ++ decimal n
+    wider before same written = written ∙ ap (λ k. before ++ decimal k) same
