@@ -6,106 +6,175 @@ mod telling;
 mod views;
 
 use crate::view::cut_at;
-use crate::{Script, ScriptFault, parse};
+use crate::{ScriptFault, parse};
 use sa_base::Memory;
 use sa_call::{CallList, Operand};
 use sa_lines::{number_of, push_decimal};
+use sa_plain::push_items;
+use sa_view::View;
 use std::alloc::Global;
 use std::process::Abort;
-use std::test::Fail;
 
-/// Writes a text in which `|` stands for a line feed, `^` for a carriage return, `!` for a byte that is no
-/// UTF-8, and `@` for this number.
+/// Writes the byte that another stands for: `|` stands for a line feed, `^` for a carriage return, `!` for a
+/// byte that is no UTF-8, and `@` for this number.
+fn push_byte(out: &mut Vec<u8>, byte: u8, number: u64) -> Result<(), Memory> {
+    let meant = match byte {
+        b'@' => return push_decimal(out, number),
+        b'|' => b'\n',
+        b'^' => b'\r',
+        b'!' => 0xff,
+        other => other,
+    };
+    Ok(out.push(meant)?)
+}
+
+/// Writes the bytes that others stand for, with this number for each `@`.
 fn push_plain(out: &mut Vec<u8>, text: &[u8], number: u64) -> Result<(), Memory> {
     for byte in text {
-        match *byte {
-            b'|' => out.push(b'\n')?,
-            b'^' => out.push(b'\r')?,
-            b'!' => out.push(0xff)?,
-            b'@' => push_decimal(out, number)?,
-            other => out.push(other)?,
-        }
+        push_byte(out, *byte, number)?;
     }
     Ok(())
+}
+
+/// The number that digits are, and 0 where they are none.
+fn count_of(digits: &[u8]) -> u64 {
+    match number_of(digits) {
+        Some(Some(count)) => count.unsigned_abs(),
+        _ => 0,
+    }
 }
 
 /// Writes a text as often as the number in front of its `*` says, with 0, 1 and so on for each `@`.
 fn push_many(out: &mut Vec<u8>, piece: &[u8]) -> Result<(), Memory> {
     let (count, piece) = cut_at(b'*', piece);
-    let count = match number_of(count) {
-        Some(Some(count)) => count.unsigned_abs(),
-        _ => 0,
-    };
-    for number in 0..count {
-        push_plain(out, piece.unwrap_or(b""), number)?;
+    let piece = piece.unwrap_or(b"");
+    for number in 0..count_of(count) {
+        push_plain(out, piece, number)?;
     }
     Ok(())
+}
+
+/// Writes what a text is up to its first piece, and this piece, and answers what follows.
+fn push_piece<'a>(out: &mut Vec<u8>, text: &'a [u8]) -> Result<&'a [u8], Memory> {
+    let (plain, behind) = cut_at(b'<', text);
+    push_plain(out, plain, 0)?;
+    let (piece, others) = cut_at(b'>', behind.unwrap_or(b""));
+    push_many(out, piece)?;
+    Ok(others.unwrap_or(b""))
 }
 
 /// Writes a text in which pieces such as `<3*na,>` stand for what `push_many` makes of them.
 fn push_text(out: &mut Vec<u8>, text: &str) -> Result<(), Memory> {
     let mut rest = text.as_bytes();
     for _ in 0..text.len() {
-        let (plain, behind) = cut_at(b'<', rest);
-        push_plain(out, plain, 0)?;
-        let (piece, others) = cut_at(b'>', behind.unwrap_or(b""));
-        push_many(out, piece)?;
-        rest = others.unwrap_or(b"");
+        rest = push_piece(out, rest)?;
     }
     Ok(())
 }
 
-/// The last call's first operand, where that is a view; of another script nothing.
-fn last_view(tasks: &[CallList]) -> Option<&Operand> {
+/// Writes a text between the two that stand before and behind a `~`.
+fn push_around(out: &mut Vec<u8>, around: &str, text: &str) -> Result<(), Memory> {
+    let (before, behind) = around.split_once('~').unwrap_or((around, ""));
+    push_text(out, before)?;
+    push_text(out, text)?;
+    push_text(out, behind)
+}
+
+/// The last call's first operand; of a script without one nothing.
+fn last_operand(tasks: &[CallList]) -> Option<&Operand> {
     tasks.last()?.as_slice().last()?.operands.get(0)
 }
 
-/// What a script is: the view that its last call reads, or else `ok`.
-fn told(alloc: Global, script: &Script) -> Result<String, Memory> {
-    match last_view(script.tasks().as_slice()) {
-        Some(Operand::View(view)) => Ok(format!(in alloc;
-            "{},{},{}",
-            view.start, view.count, view.step
-        )?),
-        _ => Ok(String::from_str(alloc, "ok")?),
+/// Writes a number and the mark in front of it.
+fn push_number(out: &mut Vec<u8>, mark: &[u8], number: u64) -> Result<(), Memory> {
+    out.extend_from_slice(mark)?;
+    push_decimal(out, number)
+}
+
+/// Writes the start, count and step of a view.
+fn push_view(out: &mut Vec<u8>, view: &View) -> Result<(), Memory> {
+    push_number(out, b"", u64::from(view.start))?;
+    push_number(out, b",", u64::from(view.count))?;
+    let mark: &[u8] = if view.step < 0 { b",-" } else { b"," };
+    push_number(out, mark, u64::from(view.step.unsigned_abs()))
+}
+
+/// Writes what a script is: the view that its last call reads, or else `ok`, or the literal that it reads
+/// where the answer that is wanted is one.
+fn push_told(out: &mut Vec<u8>, tasks: &[CallList], want: &str) -> Result<(), Memory> {
+    match last_operand(tasks) {
+        Some(Operand::View(view)) => push_view(out, view),
+        Some(Operand::Literal(items)) if want.starts_with('(') => push_items(out, items),
+        _ => Ok(out.extend_from_slice(b"ok")?),
     }
 }
 
-/// What bytes are: what their script is, or the number of their fault and its line.
-fn answer(alloc: Global, bytes: &[u8]) -> Result<String, Memory> {
-    match parse(alloc, bytes) {
-        Ok(script) => told(alloc, &script),
-        Err(ScriptFault::Fault { code, line }) => Ok(format!(in alloc; "{code}:{line}")?),
-        Err(ScriptFault::Memory) => Err(Memory),
+/// Writes the number of a fault and its line.
+fn push_fault(out: &mut Vec<u8>, fault: ScriptFault) -> Result<(), Memory> {
+    match fault {
+        ScriptFault::Fault { code, line } => {
+            push_number(out, b"", u64::from(code))?;
+            push_number(out, b":", line)
+        }
+        ScriptFault::Memory => Err(Memory),
     }
 }
 
-/// Tries each row of a table: what bytes are, a space, and the text of these bytes between two others.
-fn try_rows(
+/// Puts what bytes are in place of them: what their script is, or the number of their fault and its line.
+fn put_answer(alloc: Global, bytes: &mut Vec<u8>, want: &str) -> Result<(), Memory> {
+    let parsed = parse(alloc, bytes.as_slice());
+    bytes.clear();
+    match parsed {
+        Ok(script) => push_told(bytes, script.tasks().as_slice(), want),
+        Err(fault) => push_fault(bytes, fault),
+    }
+}
+
+/// Tries a row of a table: what bytes are, a space, and the text of these bytes between those around it.
+fn try_row(
     rt: &impl Abort,
     alloc: Global,
-    before: &str,
-    rows: &str,
-    behind: &str,
-) -> Result<(), Fail> {
+    bytes: &mut Vec<u8>,
+    around: &str,
+    row: &str,
+) -> Result<(), Memory> {
+    let (want, text) = row.split_once(' ').unwrap_or(("", row));
+    bytes.clear();
+    push_around(bytes, around, text)?;
+    put_answer(alloc, bytes, want)?;
+    let found = std::str::from_utf8(bytes.as_slice()).unwrap_or("");
+    assert_eq!(rt; found, want, "of {row}");
+    Ok(())
+}
+
+/// Tries each row of a table, and uses the bytes for the scripts.
+fn try_each(rt: &impl Abort, alloc: Global, bytes: &mut Vec<u8>, rows: &str) -> Result<(), Memory> {
+    let mut around = "";
     let mut rest = rows;
     for _ in 0..rows.len() {
         let Some((row, others)) = rest.split_once('\n') else {
             break;
         };
         rest = others;
-        let (want, text) = row.split_once(' ').unwrap_or(("", row));
-        let mut bytes = Vec::new(alloc);
-        push_text(&mut bytes, before)?;
-        push_text(&mut bytes, text)?;
-        push_text(&mut bytes, behind)?;
-        assert_eq!(rt; answer(alloc, bytes.as_slice())?.as_str(), want, "of {row}");
+        match row.strip_prefix('~') {
+            Some(texts) => around = texts,
+            None => try_row(rt, alloc, bytes, around, row)?,
+        }
     }
     Ok(())
 }
 
-/// Whole scripts.
-static LINES: &str = "11:0 
+/// Tries each row of a table. A line that begins with `~` is no row: it has the texts around those of the rows
+/// that follow, with another `~` between them.
+fn try_rows(rt: &impl Abort, alloc: Global, rows: &str) -> Result<(), Memory> {
+    let mut bytes = Vec::new(alloc);
+    try_each(rt, alloc, &mut bytes, rows)
+}
+
+/// Whole scripts; then lines behind a descriptor `d` and an array `a`; then lines of a task, behind a
+/// descriptor `d` and arrays of 2, 0 and 1 entries.
+static ROWS: &str = "~~
+11:0 
 11:1 |
 11:1 descr d absent coerce|
 11:1 descr d absent coerce
@@ -147,15 +216,8 @@ ok # two|| \t|version 2|end|
 2:2 descr d nan|version 2|end|
 2:2 version 2|version 2|end|
 2:2 end|version 2|
-";
-
-#[test]
-fn lines_and_ends(rt: HostRuntime) -> Result<(), Fail> {
-    try_rows(&rt, rt.alloc(), "", LINES, "")
-}
-
-/// Lines behind a descriptor `d` and an array `a`.
-static DECLARATIONS: &str = "ok descr f absent
+~descr d nan|array a d str 2|~|end|
+ok descr f absent
 ok descr f nan coerce
 ok \tdescr  f\tother \t strict 
 ok descr text text \"absent\"
@@ -214,21 +276,8 @@ ok array b d int 1
 3:3 set a (\"x\",\"y\",\"z\")
 3:3 stats x
 2:3 show a a
-";
-
-#[test]
-fn declarations(rt: HostRuntime) -> Result<(), Fail> {
-    try_rows(
-        &rt,
-        rt.alloc(),
-        "descr d nan|array a d str 2|",
-        DECLARATIONS,
-        "|end|",
-    )
-}
-
-/// Lines of a task, behind a descriptor `d` and arrays of 2, 0 and 1 entries.
-static CALLS: &str = "ok task
+~descr d nan|array a d str 2|array none d str 0|array one d str 1|task|~|end|
+ok task
 0,2,1 show a
 0,0,1 \tshow \t none\t
 ok set a na
@@ -312,7 +361,6 @@ ok image d
 ";
 
 #[test]
-fn calls(rt: HostRuntime) -> Result<(), Fail> {
-    let before = "descr d nan|array a d str 2|array none d str 0|array one d str 1|task|";
-    try_rows(&rt, rt.alloc(), before, CALLS, "|end|")
+fn lines_declarations_and_calls(rt: HostRuntime) -> Result<(), Memory> {
+    try_rows(&rt, rt.alloc(), ROWS)
 }

@@ -1,8 +1,10 @@
 use super::try_rows;
-use std::test::Fail;
+use sa_base::Memory;
 
-/// Names, descriptors, arrays and entries, behind a descriptor `d`.
-static DECLARATIONS: &str = "ok descr <32*n> nan
+/// Names, descriptors, arrays and entries, behind a descriptor `d`; then tasks and calls, behind a descriptor
+/// `d` and an array `a`; then texts and lists, behind an array `a` of 8,192 entries and an array `b` of 2.
+static ROWS: &str = "~descr d nan|~|end|
+ok descr <32*n> nan
 5:2 descr <33*n> nan
 ok array <32*n> d str 1
 5:2 array <33*n> d str 1
@@ -19,15 +21,8 @@ ok <64*array a@ d str 128|>
 5:4 <2*array a@ d str 4096|>array b d str 1
 ok <7*descr d@ nan|array a@ d@ str 8192|>
 ok descr e nan|<2*array a@ d str 4096|>array b e str 8192
-";
-
-#[test]
-fn most_declarations(rt: HostRuntime) -> Result<(), Fail> {
-    try_rows(&rt, rt.alloc(), "descr d nan|", DECLARATIONS, "|end|")
-}
-
-/// Tasks and calls, behind a descriptor `d` and an array `a`.
-static TASKS: &str = "ok <64*task|>
+~descr d nan|array a d str 1|~|end|
+ok <64*task|>
 5:67 <65*task|>
 ok task|<1024*show a|>task
 5:1028 task|<1025*show a|>
@@ -36,21 +31,8 @@ ok task|<1024*set a na|>
 0,1,1 task|show a|<63*task|show a|set a na|show a|set a na|copy a into a|>
 5:1029 task|<1021*show a|>task|show a|set a na|show a|set a na|
 4:4 task|show <33*n>
-";
-
-#[test]
-fn most_tasks_and_calls(rt: HostRuntime) -> Result<(), Fail> {
-    try_rows(
-        &rt,
-        rt.alloc(),
-        "descr d nan|array a d str 1|",
-        TASKS,
-        "|end|",
-    )
-}
-
-/// Texts and lists, behind an array `a` of 8,192 entries and an array `b` of 2.
-static LISTS: &str = "ok descr f text \"<65536*x>\"
+~descr d nan|array a d str 8192|descr e nan|array b e str 2|~|end|
+ok descr f text \"<65536*x>\"
 5:5 descr f text \"<65537*x>\" strict
 2:5 descr f text \"<65537*x>\" x
 4:5 descr d text \"<65537*x>\"
@@ -73,7 +55,6 @@ ok task|set a (<8191*\"@\",>\"\")
 ";
 
 #[test]
-fn longest_texts_and_lists(rt: HostRuntime) -> Result<(), Fail> {
-    let front = "descr d nan|array a d str 8192|descr e nan|array b e str 2|";
-    try_rows(&rt, rt.alloc(), front, LISTS, "|end|")
+fn what_there_may_be_at_most(rt: HostRuntime) -> Result<(), Memory> {
+    try_rows(&rt, rt.alloc(), ROWS)
 }

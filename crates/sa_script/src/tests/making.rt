@@ -1,15 +1,11 @@
 use super::try_rows;
-use std::test::Fail;
+use sa_base::Memory;
 
-/// What stands before the calls: descriptors of different rules, `t` and `u` with the same text, and arrays
-/// of 2 entries, `one` of 1.
-static FRONT: &str =
-    "descr d nan|descr e other|descr n absent|descr t text \"x\"|descr u text \"x\"|\
-    array a d str 2|array b e str 2|array c n str 2|array w t str 2|array v u str 2|\
-    array one d str 1|array add d str 2|task|";
-
-/// Lines of calls that make texts, and of some that do not.
-static CALLS: &str = "0,2,1 add a \"x\"
+/// Lines of calls that make texts, and of some that do not. Before them stand descriptors of different rules,
+/// `t` and `u` with the same text, and arrays of 2 entries, `one` of 1.
+static ROWS: &str =
+    "~descr d nan|descr e other|descr n absent|descr t text \"x\"|descr u text \"x\"|array a d str 2|array b e str 2|array c n str 2|array w t str 2|array v u str 2|array one d str 1|array add d str 2|task|~|end|
+0,2,1 add a \"x\"
 ok add \"x\" a
 ok add \"x\" \"y\"
 0,2,1 add a a into a
@@ -126,6 +122,6 @@ ok multiply \"x\" (<8191*1,>1)
 ";
 
 #[test]
-fn calls_that_make_texts(rt: HostRuntime) -> Result<(), Fail> {
-    try_rows(&rt, rt.alloc(), FRONT, CALLS, "|end|")
+fn calls_that_make_texts(rt: HostRuntime) -> Result<(), Memory> {
+    try_rows(&rt, rt.alloc(), ROWS)
 }

@@ -1,5 +1,7 @@
-use crate::parse;
-use std::test::Fail;
+use crate::{Script, parse};
+use sa_base::Memory;
+use std::alloc::Global;
+use std::fmt::Debug;
 
 /// A script of several descriptors, arrays and tasks.
 static SCRIPT: &str = "# words
@@ -29,7 +31,8 @@ end
 
 /// What it declares and calls, as `Debug` writes it. A literal's values are shared, so that copies of it
 /// take no memory.
-static TOLD: &str = "2 Names { descrs: [\"d\", \"e\", \"f\", \"g\"], arrays: [\"b\", \"a\", \"c\"] }
+static TOLD: &str = "\n2
+Names { descrs: [\"d\", \"e\", \"f\", \"g\"], arrays: [\"b\", \"a\", \"c\"] }
 Decls { descrs: [Descr { na: Txt(Text { bytes: SharedBytes { held: Inside { size: 4, bytes: [45, 45, 195, 169, 0, 0, 0, 0, 0, 0, 0, 0, 0, 0] } } }), coerce: true }, \
     Descr { na: Absent, coerce: false }, \
     Descr { na: Nan, coerce: true }, \
@@ -60,17 +63,31 @@ Sequence { items: [\
     Call { op: Image(3), operands: Sequence { items: [] }, \
     out: None }] }] }";
 
+/// Writes a line feed and what `Debug` writes of a value.
+fn push_line(out: &mut String, value: &impl Debug) -> Result<(), Memory> {
+    Ok(write!(out, "\n{value:?}")?)
+}
+
+/// Writes what a script declares and calls.
+fn push_script(out: &mut String, script: &Script) -> Result<(), Memory> {
+    push_line(out, &script.version())?;
+    push_line(out, script.names())?;
+    push_line(out, script.decls())?;
+    push_line(out, script.tasks())
+}
+
+/// Writes what the script's bytes are.
+fn push_parsed(alloc: Global, out: &mut String) -> Result<(), Memory> {
+    match parse(alloc, SCRIPT.as_bytes()) {
+        Ok(script) => push_script(out, &script),
+        Err(fault) => push_line(out, &fault),
+    }
+}
+
 #[test]
-fn what_a_script_is(rt: HostRuntime) -> Result<(), Fail> {
-    let alloc = rt.alloc();
-    let script = parse(alloc, SCRIPT.as_bytes())?;
-    let declared = format!(in alloc;
-        "{} {:?}\n{:?}",
-        script.version(),
-        script.names(),
-        script.decls()
-    )?;
-    let called = format!(in alloc; "{declared}\n{:?}", script.tasks())?;
-    assert_eq!(rt; called.as_str(), TOLD);
+fn what_a_script_is(rt: HostRuntime) -> Result<(), Memory> {
+    let mut told = String::new(rt.alloc());
+    push_parsed(rt.alloc(), &mut told)?;
+    assert_eq!(rt; told.as_str(), TOLD);
     Ok(())
 }

@@ -1,13 +1,11 @@
-use super::{push_text, try_rows};
-use crate::parse;
+use super::try_rows;
 use sa_base::Memory;
-use sa_call::Operand;
-use sa_plain::push_items;
-use std::alloc::Global;
-use std::test::Fail;
 
-/// Declarations of plain arrays, behind a descriptor `d`.
-static DECLARATIONS: &str = "ok array i d int 0
+/// Declarations of plain arrays, behind a descriptor `d`. Then, behind two descriptors of different rules, arrays
+/// of 2 entries of each kind, two of some widths, and `one` of 1: lists of each kind, put into arrays of each
+/// kind; tokens that are no lists; calls on plain arrays; and what lists are, as a report writes them.
+static ROWS: &str = "~descr d nan|~|end|
+ok array i d int 0
 ok array t d bool 8192
 ok array b d bytes 1 1
 ok array b d bytes 256 8192
@@ -44,21 +42,8 @@ ok array i d int 4096|array b d bytes 8 4096
 2:2 array b d byte 1 1
 2:2 array i d Int 1
 2:2 array i d float 1
-";
-
-#[test]
-fn plain_arrays(rt: HostRuntime) -> Result<(), Fail> {
-    try_rows(&rt, rt.alloc(), "descr d nan|", DECLARATIONS, "|end|")
-}
-
-/// What stands before the calls: two descriptors of different rules, arrays of 2 entries of each kind, two
-/// of some widths, and `one` of 1.
-static FRONT: &str = "descr d nan|descr e other|\
-    array s d str 2|array i d int 2|array t d bool 2|array b d bytes 3 2|array f d fixed 2 2|\
-    array c d bytes 4 2|array g d fixed 3 2|array j e int 2|array one d int 1|task|";
-
-/// Lists of each kind, put into arrays of each kind.
-static SETS: &str = "ok set s (na,\"x\")
+~descr d nan|descr e other|array s d str 2|array i d int 2|array t d bool 2|array b d bytes 3 2|array f d fixed 2 2|array c d bytes 4 2|array g d fixed 3 2|array j e int 2|array one d int 1|task|~|end|
+ok set s (na,\"x\")
 ok set i 5
 ok set i (-1,2)
 ok set t true
@@ -116,15 +101,7 @@ ok set g units:1.00000002.3
 5:13 set t (<8192*true,>true)
 5:13 set b (<8192*hex:,>hex:)
 5:13 set f (<8192*units:,>units:)
-";
-
-#[test]
-fn lists_of_each_kind(rt: HostRuntime) -> Result<(), Fail> {
-    try_rows(&rt, rt.alloc(), FRONT, SETS, "|end|")
-}
-
-/// Tokens that are no lists.
-static MISSPELLED: &str = "2:13 set b hex:0
+2:13 set b hex:0
 2:13 set b hex:000
 2:13 set b hex:0g
 2:13 set b hex:0x00
@@ -161,15 +138,7 @@ static MISSPELLED: &str = "2:13 set b hex:0
 2:13 set f (units:0,false)
 2:13 set t (<8192*true,>1)
 2:13 set b (<8192*hex:,>units:)
-";
-
-#[test]
-fn lists_that_are_misspelled(rt: HostRuntime) -> Result<(), Fail> {
-    try_rows(&rt, rt.alloc(), FRONT, MISSPELLED, "|end|")
-}
-
-/// Calls on plain arrays.
-static CALLS: &str = "0,2,1 show i
+0,2,1 show i
 0,2,1 show b
 1,2,-1 show f[1,2,-1]
 0,2,1 copy i into i
@@ -217,54 +186,14 @@ ok stats d
 ok image e
 2:13 multiply i[0,2] 2
 6:13 copy i[0,3,1] into t
+(7,0) set i (007,-0)
+(true,false) set t (true,false)
+(hex:00ffab,hex:) set b (hex:00fFaB,hex:)
+(units:,units:41.10ffff.d800) set g (units:,units:00000041.10FFFF.d800)
+(units:0.ffffffff) set f units:0.FFFFFFFF
 ";
 
 #[test]
-fn calls_on_plain_arrays(rt: HostRuntime) -> Result<(), Fail> {
-    try_rows(&rt, rt.alloc(), FRONT, CALLS, "|end|")
-}
-
-/// The literal of a script's last call, as a report writes it.
-fn literal(alloc: Global, line: &str) -> Result<Vec<u8>, Memory> {
-    let mut bytes = Vec::new(alloc);
-    push_text(&mut bytes, FRONT)?;
-    push_text(&mut bytes, line)?;
-    push_text(&mut bytes, "|end|")?;
-    let mut out = Vec::new(alloc);
-    let Ok(script) = parse(alloc, bytes.as_slice()) else {
-        return Ok(out);
-    };
-    let Some(calls) = script.tasks().as_slice().last() else {
-        return Ok(out);
-    };
-    let Some(call) = calls.as_slice().last() else {
-        return Ok(out);
-    };
-    if let Some(Operand::Literal(items)) = call.operands.get(0) {
-        push_items(&mut out, items)?;
-    }
-    Ok(out)
-}
-
-#[test]
-fn what_lists_are(rt: HostRuntime) -> Result<(), Fail> {
-    let alloc = rt.alloc();
-    let rows = [
-        ("set i (007,-0)", "(7,0)"),
-        ("set t (true,false)", "(true,false)"),
-        ("set b (hex:00fFaB,hex:)", "(hex:00ffab,hex:)"),
-        (
-            "set g (units:,units:00000041.10FFFF.d800)",
-            "(units:,units:41.10ffff.d800)",
-        ),
-        ("set f units:0.FFFFFFFF", "(units:0.ffffffff)"),
-    ];
-    for (line, want) in rows {
-        assert_eq!(rt;
-            literal(alloc, line)?.as_slice(),
-            want.as_bytes(),
-            "of {line}"
-        );
-    }
-    Ok(())
+fn plain_arrays(rt: HostRuntime) -> Result<(), Memory> {
+    try_rows(&rt, rt.alloc(), ROWS)
 }

@@ -1,12 +1,11 @@
 use super::try_rows;
-use std::test::Fail;
+use sa_base::Memory;
 
-/// What stands before the calls: descriptors of different rules, and arrays of 2 entries, `one` of 1.
-static FRONT: &str = "descr d nan|descr n absent|descr t text \"x\"|\
-    array a d str 2|array c n str 2|array w t str 2|array one d str 1|task|";
-
-/// Lines of calls that seek, compare and test texts.
-static CALLS: &str = "0,2,1 replace a \"x\" \"y\"
+/// Lines of calls that seek, compare and test texts. Before them stand descriptors of different rules, and
+/// arrays of 2 entries, `one` of 1.
+static ROWS: &str =
+    "~descr d nan|descr n absent|descr t text \"x\"|array a d str 2|array c n str 2|array w t str 2|array one d str 1|task|~|end|
+0,2,1 replace a \"x\" \"y\"
 0,2,1 replace a \"x\" \"y\" into a
 0,2,1 replace a \"x\" \"y\" 1
 0,2,1 replace a (\"x\",\"y\") one (1,-2) into c
@@ -71,6 +70,6 @@ ok isalnum (\"x\",\"y\")
 ";
 
 #[test]
-fn lines_of_calls_that_tell_of_texts(rt: HostRuntime) -> Result<(), Fail> {
-    try_rows(&rt, rt.alloc(), FRONT, CALLS, "|end|")
+fn lines_of_calls_that_tell_of_texts(rt: HostRuntime) -> Result<(), Memory> {
+    try_rows(&rt, rt.alloc(), ROWS)
 }

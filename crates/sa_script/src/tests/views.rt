@@ -1,8 +1,9 @@
 use super::try_rows;
-use std::test::Fail;
+use sa_base::Memory;
 
-/// Views of an array `a` of 3 entries, the first version's.
-static VIEWS: &str = "0,3,1 show a[0,3,1]
+/// Views of an array `a` of 3 entries, the first version's; then slices of an array `b` of 3 entries.
+static ROWS: &str = "~descr d nan|array a d str 3|task|~|end|
+0,3,1 show a[0,3,1]
 2,3,-1 show a[2,3,-1]
 1,2,1 show a[1,2,01]
 3,0,-5 show a[3,0,-5]
@@ -44,21 +45,8 @@ ok set a[0,2,2] (na,\"x\")
 2:4 set a[0:1] na
 2:4 copy a into a[::-1]
 2:4 show x[9:9223372036854775808]
-";
-
-#[test]
-fn views(rt: HostRuntime) -> Result<(), Fail> {
-    try_rows(
-        &rt,
-        rt.alloc(),
-        "descr d nan|array a d str 3|task|",
-        VIEWS,
-        "|end|",
-    )
-}
-
-/// Slices of an array `b` of 3 entries.
-static SLICES: &str = "2,3,-1 show b[::-1]
+~version 2|descr d nan|array b d str 3|task|~|end|
+2,3,-1 show b[::-1]
 1,2,1 show b[-2:]
 0,1,2 show b[:-1:2]
 0,0,1 show b[5:]
@@ -85,7 +73,6 @@ ok set b[1:] (na,\"x\")
 ";
 
 #[test]
-fn slices(rt: HostRuntime) -> Result<(), Fail> {
-    let before = "version 2|descr d nan|array b d str 3|task|";
-    try_rows(&rt, rt.alloc(), before, SLICES, "|end|")
+fn views_and_slices(rt: HostRuntime) -> Result<(), Memory> {
+    try_rows(&rt, rt.alloc(), ROWS)
 }
